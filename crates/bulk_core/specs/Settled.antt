@@ -63,13 +63,6 @@ pub record SettlesSome (before after : Settled) (spots : List Spot) (old new : �
   pub counted : new ≡ old + length (take many spots)
   pub first : SettlesFirst before after spots many
 
--- Behind what the list had stand some of the candidates: of those that were seen all that are open.
-pub record AppendsOpen {X : Type 0} (Open : X → Type 0) (candidates seen before after : List X) : Type 0 where
-  pub added : List X
-  pub appended : after ≡ before ++ added
-  pub among : (x : X) → Contains added x → Contains candidates x
-  pub rest : (x : X) → Contains seen x → Contains added x ⊎ (¬ Open x)
-
 -- ---- how it is kept
 
 -- the target is a node, and the greatest cost tells what is within the limit, in so many criteria

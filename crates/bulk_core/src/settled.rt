@@ -1,5 +1,5 @@
 ghost use Rattle.std.specs.Prelude.{◌≡◌, ℕ, ◌+◌, ◌-◌, ◌<◌, ◌≤◌, ◌↔◌, [], ◌∷◌, length, map, All, IfOk, IsPermutation, IsTrue, OnErr};
-ghost use Rattle.bulk_core.specs.Settled.{AppendsOpen, CanSettle, IsBarredBy, HasDominating, HasDominatingAt, IsSpentBy, SameBounds, SettlesSome};
+ghost use Rattle.bulk_core.specs.Settled.{CanSettle, IsBarredBy, HasDominating, HasDominatingAt, IsSpentBy, SameBounds, SettlesSome};
 ghost use Rattle.cost_vector.specs.Costs.{Dominates, max_criteria, min_criteria};
 ghost use Rattle.road_network.specs.Limits.{max_budget, max_nodes};
 ghost use Rattle.road_network.specs.Network.{IsNode};
@@ -142,26 +142,6 @@ pub(crate) fn settle_all<const D: usize, F: SettledFront<D>>(
     for item in items {
         settled.push(item.node, &item.cost)?;
         *count += 1;
-    }
-    Ok(())
-}
-
-/// Lists those of the candidates that are open behind what is there.
-pub(crate) fn list_open<const D: usize, F: SettledFront<D>>(
-    settled: &Settled<D, F>,
-    candidates: &[Item<F::Cost>],
-    list: &mut Vec<Item<F::Cost>>,
-) -> Result<(), OutOfMemory>
-    ensures some { AppendsOpen (λ i. ¬ IsSpentBy settled.now (spot_in F.Cost.components i))
-        candidates.now [] list.old.items list.new.items }
-    ensures all { IfOk result (λ _. AppendsOpen
-        (λ i. ¬ IsSpentBy settled.now (spot_in F.Cost.components i))
-        candidates.now candidates.now list.old.items list.new.items) }
-{
-    for item in candidates {
-        if settled.is_open(item) {
-            list.push(*item)?;
-        }
     }
     Ok(())
 }

@@ -29,9 +29,7 @@ use Rattle.waiting_item.specs.Waiting.{spot_in, spot_of}
 use Rattle.waiting_item.specs.declared.item.Item.{Item as QueueItem}
 use Rattle.waiting_queue.proofs.JoiningLemmas.{in_flat, of_flat}
 use Rattle.round_work.specs.Onward.{IsTooWide, onward, onward_of, reached_from}
-use Rattle.round_work.specs.Survivors.{HasBelow, KeepsOpen, KeepsSurvivors}
-use Rattle.round_work.proofs.OpenLemmas.{by_each}
-use Rattle.round_work.proofs.SurvivorLemmas.{done_on}
+use Rattle.round_work.specs.Survivors.{HasBelow, KeepsSurvivors}
 use Rattle.bulk_search.specs.Rounds.{IsOpen, EndsOver, KeepsEnough}
 
 -- ---- what items give along all arcs
@@ -212,20 +210,6 @@ keeps_all Open candidates = record {
 
 pub keeps_survivors : (Open : Spot → Type 0) (candidates kept : List Item) → KeepsSurvivors spot_of Open candidates kept → KeepsEnough Open candidates kept
 keeps_survivors Open candidates kept keeps = record { among = keeps.among; rest = keeps.rest }
-
-pub keeps_open : (Open : Spot → Type 0) (candidates kept : List Item) → KeepsOpen spot_of Open candidates kept → KeepsEnough Open candidates kept
-keeps_open Open = by_each spot_of Open (KeepsEnough Open) (keeps_all Open [])
-    (λ x held xs ks is. record {
-      among = λ i h. elim (cases_in x ks i h) [ inl same ↦ in_front x xs i same | inr later ↦ in_rest x xs i (is.among i later) ];
-      rest = λ i h. elim (cases_in x xs i h) [
-        | inl same ↦ inr (record { by = i; member = in_front x ks i same; node = refl; at_most = AtMost-refl i.spot.cost })
-        | inr later ↦ done_on spot_of Open ks (x ∷ ks) i (in_rest x ks) (is.rest i later)
-      ];
-    })
-    (λ x closed xs ks is. record {
-      among = λ i h. in_rest x xs i (is.among i h);
-      rest = λ i h. elim (cases_in x xs i h) [ inl same ↦ inl (rw same closed) | inr later ↦ is.rest i later ];
-    })
 
 -- what isn't open for a look that tells what is spent, is spent
 pub closed_is_spent : (core : Core) (Spent : Spot → Type 0) → ((x : Spot) → Spent x ↔ IsSpent core x) → (x : Spot) → ¬ (¬ Spent x) → IsSpent core x

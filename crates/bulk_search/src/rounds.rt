@@ -1,5 +1,4 @@
-ghost use Rattle.std.specs.Prelude.{◌≡◌, ◌^◌, ◌<◌, ◌/◌, ◌==◌, [], length, map, All, Err, IfOk, if◌then◌else◌};
-ghost use Rattle.std.specs.Bool.{nat_le};
+ghost use Rattle.std.specs.Prelude.{◌≡◌, ◌^◌, ◌<◌, [], length, map, All, Err, IfOk};
 ghost use Rattle.bulk_rounds.specs.Begins.{BeginsAs, CountsRound};
 ghost use Rattle.bulk_rounds.specs.Cores.{IsNewSearch};
 ghost use Rattle.bulk_rounds.specs.Standing.{IsSearchOf};
@@ -20,7 +19,7 @@ use cost_vector::NodeNo;
 use found_fronts::{FoundAtWidth, FoundFronts};
 use out_of_memory::OutOfMemory;
 use road_network::Query;
-use round_work::{Marks, PIECE_SIZE, RelaxFault, merge, relax, relax_open};
+use round_work::{RelaxFault, merge, relax};
 use route_io::Gate;
 use settled_front::{NarrowFront, SettledFront};
 use std::alloc::Global;
@@ -36,7 +35,6 @@ use work_claim::Workers;
 pub(crate) struct WidthRounds<const D: usize, F: SettledFront<D>> {
     pub(crate) core: Core<D, F>,
     candidates: Vec<Item<F::Cost>>,
-    marks: Marks,
 }
 
 impl<const D: usize, F: SettledFront<D>> WidthRounds<D, F> {
@@ -65,7 +63,6 @@ impl<const D: usize, F: SettledFront<D>> WidthRounds<D, F> {
         Ok(WidthRounds {
             core,
             candidates: Vec::new(alloc),
-            marks: Marks::new(alloc, nodes)?,
         })
     }
 }
@@ -75,8 +72,8 @@ where
     F::Cost: Send + Sync,
     <F::Cost as StoredCost<D>>::Part: Send + Sync,
 {
-    /// Ends the open round: relaxes the arcs of what it has taken, but for those that lead straight back, and puts what they
-    /// give into the queue. Where a cost has no room at this width, all is as it was.
+    /// Ends the open round: relaxes the arcs of what it has taken, but for those that lead straight back, merges what they give,
+    /// and puts what is kept of it into the queue. Where a cost has no room at this width, all is as it was.
     fn finish<R: Threads + Sync, G: Gate>(
         &mut self,
         workers: &Workers<'_, R, G>,
@@ -91,16 +88,9 @@ where
     {
         prove!(network.nodes() >= 1);
         prove!(network.criteria() == D);
-        let taken = self.core.taken();
-        let few = taken.len() <= PIECE_SIZE;
-        let settled = self.core.settled();
-        let (marks, candidates) = (&mut self.marks, &mut self.candidates);
-        relax_taken(workers, alloc, network, settled, taken, marks, candidates)?;
-        if few {
-            self.core.finish(&self.candidates)?;
-        } else {
-            self.core.finish_open(&self.candidates)?;
-        }
+        let (taken, settled) = (self.core.taken(), self.core.settled());
+        relax_and_merge(workers, alloc, network, settled, taken, &mut self.candidates)?;
+        self.core.finish(&self.candidates)?;
         Ok(())
     }
 }
@@ -119,7 +109,6 @@ where
         Ok(WidthRounds {
             core,
             candidates: Vec::new(alloc),
-            marks: self.marks,
         })
     }
 }
@@ -247,10 +236,9 @@ where
     }
 }
 
-/// Lists what taken items give along their arcs, but for what leads straight back and for what may be left out. Where little was
-/// taken, it is relaxed in one piece, and then the candidates of each node are a piece; else in several, which leave out what
-/// isn't open.
-fn relax_taken<
+/// Lists what taken items give along their arcs, but for what leads straight back and for what may be left out: the workers
+/// relax the items piece by piece, and then merge what that gives node by node.
+fn relax_and_merge<
     const D: usize,
     C: StoredCost<D> + Send + Sync,
     K: Look<D, C> + Sync,
@@ -262,7 +250,6 @@ fn relax_taken<
     network: &Network<'_>,
     look: &K,
     taken: &[Item<C>],
-    marks: &mut Marks,
     candidates: &mut Vec<Item<C>>,
 ) -> Result<(), RelaxFault>
 where
@@ -276,53 +263,8 @@ where
     ensures too_wide { result ≡ Err fault.TooWide → IsTooWide C.Part.bound
         (onward_of network.now (map (as_waiting C.components) taken.now)) }
 {
-    if taken.len() > PIECE_SIZE {
-        let workers = &workers.for_labels(labels_of_taken(D, taken.len()));
-        return relax_open(workers, alloc, network, look, taken, candidates);
-    }
-    let workers = &workers.for_labels(taken.len());
+    let workers = &workers.for_labels(labels_of_spots(taken.len()));
     relax(workers, alloc, network, taken, candidates)?;
-    keep_survivors(workers, alloc, look, marks, candidates)?;
+    merge(workers, alloc, look, candidates)?;
     Ok(())
-}
-
-/// How many labels of whole queries that are shared are as much work as relaxing so many taken spots of a round. Under 2 criteria a
-/// front answers so soon that other processors take longer to fetch it.
-fn labels_of_taken(criteria: usize, taken: usize) -> usize
-    ensures { result ≡ (if criteria == 2 then taken / 64
-        else if nat_le 1600 taken then taken / 2 else 0) }
-{
-    if criteria == 2 {
-        taken / 64
-    } else {
-        labels_of_spots(taken)
-    }
-}
-
-/// Where several work, they leave out what isn't open and what other open candidates of its node dominate. One alone leaves all,
-/// and passes the same pieces.
-fn keep_survivors<
-    const D: usize,
-    C: StoredCost<D> + Send + Sync,
-    K: Look<D, C> + Sync,
-    R: Threads + Sync,
-    G: Gate,
->(
-    workers: &Workers<'_, R, G>,
-    alloc: Global,
-    look: &K,
-    marks: &mut Marks,
-    candidates: &mut Vec<Item<C>>,
-) -> Result<(), OutOfMemory>
-where
-    C::Part: Send + Sync,
-    ensures { IfOk result (λ _. KeepsEnough (K.IsOpen look.now)
-        (map (as_waiting C.components) candidates.old.items)
-        (map (as_waiting C.components) candidates.new.items)) }
-{
-    if workers.count() == 1 {
-        marks.pass_nodes(workers, candidates);
-        return Ok(());
-    }
-    merge(workers, alloc, look, candidates)
 }

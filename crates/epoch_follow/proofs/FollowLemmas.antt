@@ -1,5 +1,5 @@
 -- What a follower comes to by its leader's feeds.
-use Rattle.std.proofs.Common.{◌≡◌, ◌≢◌, ℕ, ◌+◌, ◌-◌, ◌<◌, ◌≤◌, ◌^◌, List, [], ◌∷◌, ◌++◌, ◌⊎◌, inl, inr, length, map, take, drop, refl, sym, ap, subst, ◌∙◌, arith, append_assoc, append-nil, length-append, length-drop, take-append-drop}
+use Rattle.std.proofs.Common.{◌≡◌, ℕ, false, Option, ◌+◌, ◌-◌, ◌<◌, ◌≤◌, ◌^◌, List, [], ◌∷◌, ◌++◌, ◌⊎◌, inl, inr, length, map, take, drop, refl, sym, ap, subst, ◌∙◌, arith, append_assoc, append-nil, length-append, length-drop, take-append-drop}
 use Rattle.std.specs.Prelude.{All, Contains}
 use Rattle.std.specs.List.{flat_map, slice_range}
 use Rattle.std.proofs.lemmas.List.{length-take}
@@ -8,8 +8,8 @@ use mathlib.Core.List.{IsPrefix}
 use Rattle.list_laws.proofs.Members.{cases_push, in_first, in_none}
 use Rattle.arc_graph.specs.declared.change.Change.{Change}
 use Rattle.arc_graph.specs.Graph.{Graph, IsGraph}
-use Rattle.arc_graph.specs.History.{History, IsChange, IsPublished, sets, sets_of}
-use Rattle.line_text.specs.Lines.{lines_of}
+use Rattle.arc_graph.specs.History.{History, IsChange, IsPublished, ends_closed, sets, sets_of}
+use Rattle.line_text.specs.Lines.{lines_ended, lines_of}
 use Rattle.line_text.proofs.WrittenLineLemmas.{IsLineText, lines_of-line}
 use Rattle.epoch_follow.specs.declared.feed_end.FeedEnd.{FeedEnd}
 use Rattle.epoch_follow.specs.declared.feed_end.FeedEnd.TheVariants.{Whole, Cut, Bad, Gap, Long, Read, OutOfMemory}
@@ -17,14 +17,42 @@ use Rattle.epoch_follow.specs.Followers.{ComesFrom, ComesWhole, Delivery, Follow
 use Rattle.epoch_follow.specs.Runs.{FeedRun, Place, State, Step, begun, end_at, feed_run, last_epoch, run_lines, step_of, with_message}
 use Rattle.epoch_follow.specs.Runs.Place.{First, Between, Within}
 use Rattle.epoch_follow.specs.Runs.Step.{GoesOn, Ends}
-use Rattle.epoch_follow.specs.Takes.{TakesFeed, TakesLines}
+use Rattle.epoch_follow.specs.Takes.{RunsTo, TakesBytes, TakesFeed, feed_starved, is_read}
 use Rattle.epoch_follow.specs.Text.{FeedHead, feed_text, head_of, messages}
 use Rattle.epoch_follow.proofs.BrokenLemmas.{BreaksOff, breaks_off, cut, fewer, more, nothing}
-use Rattle.epoch_follow.proofs.LeaderLemmas.{Carries, all_changes, carries_others, epoch_counts, few_changes, message_keeps, sets_grow}
+use Rattle.epoch_follow.proofs.LeaderLemmas.{Carries, all_changes, all_of, carries_others, epoch_counts, few_changes, message_keeps, sets_grow}
 use Rattle.epoch_follow.proofs.OnWayLemmas.{AtEnd, any_step, by_step, run_grows}
+use Rattle.epoch_follow.proofs.RefusalLemmas.{never_long}
 use Rattle.epoch_follow.proofs.RunLemmas.{behind, run_ends, run_goes}
+use Rattle.epoch_store.proofs.PrefixLemmas.{prefix_self}
 use Rattle.epoch_follow.proofs.TrueLineLemmas.{Fares, IsOn, fares_on, fares_within_limits}
 use Rattle.epoch_follow.proofs.WrittenLemmas.{IsHead, begin_written, change_says, change_words, end_words, end_written, ended, head_is, head_words, head_written, message_words, messages_are, messages_words}
+
+module _ (head : FeedHead) (total : ℕ) (old new : History) (bytes : List ℕ) where
+  -- what a feed led to is the history of its run, or of the run of its first lines
+  pub led_by : (after : Option (List ℕ)) (end : FeedEnd) → TakesFeed head total old bytes after end new → (P : History → Type 0)
+      → P (feed_run head total old bytes).history
+      → ((count : ℕ) → P (run_lines head total (length bytes) (begun old) (take count (lines_of bytes))).history) → P new
+  led_by after end takes P whole first = by end takes.reads takes.runs where
+    by : (e : FeedEnd) → TakesBytes head total old bytes takes.taken after e new → RunsTo head total old bytes e new → P new
+    by Read reads runs = subst P reads.history (first (lines_ended takes.taken))
+    by (OutOfMemory want) (inl starves) runs = subst P starves.stops.leads.history (first (lines_ended starves.stops.front))
+    by (OutOfMemory want) (inr none) runs = subst P (sym none.1) (first 0)
+    by Whole reads runs = subst (λ r. P r.history) runs whole
+    by Cut reads runs = subst (λ r. P r.history) runs whole
+    by (Bad n) reads runs = subst (λ r. P r.history) runs whole
+    by (Gap n) reads runs = subst (λ r. P r.history) runs whole
+    by Long reads runs = subst (λ r. P r.history) runs whole
+
+  pub run_known : (end : FeedEnd) → feed_starved end ≡ false → is_read end ≡ false → RunsTo head total old bytes end new
+      → feed_run head total old bytes ≡ record { history = new; end = end }
+  run_known Read remembered read runs = absurd cc
+  run_known (OutOfMemory want) remembered read runs = absurd cc
+  run_known Whole remembered read runs = runs
+  run_known Cut remembered read runs = runs
+  run_known (Bad n) remembered read runs = runs
+  run_known (Gap n) remembered read runs = runs
+  run_known Long remembered read runs = runs
 
 module _ (head : FeedHead) (leader : History) (is : IsHead head) (published : IsPublished head.arcs head.criteria head.first leader) where
   -- ---- lines that break off
@@ -64,7 +92,7 @@ module _ (head : FeedHead) (leader : History) (is : IsHead head) (published : Is
   -- ---- all lines
 
   -- a run came to its end, or was too long
-  abbrev Arrives : ℕ → FeedRun → Type 0
+  abbrev pub Arrives : ℕ → FeedRun → Type 0
   Arrives j run = (run.end ≡ Long) ⊎ ((run.end ≡ Whole) × (j ≤ sets run.history))
 
   arrived : (j : ℕ) (state : State) (place : Place) → IsOn head leader j (Unit {0}) state.history place [] → (end_at place ≡ Whole) × (j ≤ sets state.history)
@@ -152,25 +180,15 @@ module _ (head : FeedHead) (leader : History) (is : IsHead head) (published : Is
     came : (bytes : List ℕ) → IsPrefix bytes (feed_text head leader i j) → BreaksOff feed_words (lines_of bytes)
     came bytes front = breaks_off feed_words bytes all_text (subst (IsPrefix bytes) text_is front)
 
-    pub feed_keeps : (total : ℕ) (old new : History) (bytes : List ℕ) (end : FeedEnd) → IsPrefix bytes (feed_text head leader i j) → IsPrefix old leader
-        → TakesFeed head total old bytes end new → IsPrefix new leader
-    feed_keeps total old new bytes end front begins takes = by_end end takes where
-      run : IsPrefix (feed_run head total old bytes).history leader
-      run = lines_keep total old bytes begins (lines_of bytes) (came bytes front)
+    pub run_follows : (total : ℕ) (old : History) (bytes : List ℕ) → IsPrefix bytes (feed_text head leader i j) → IsPrefix old leader
+        → IsPrefix (feed_run head total old bytes).history leader
+    run_follows total old bytes front begins = lines_keep total old bytes begins (lines_of bytes) (came bytes front)
 
-      first : (takes : TakesLines head total old bytes new) → IsPrefix new leader
-      first takes =
-          subst (λ h. IsPrefix h leader) takes.history
-          (lines_keep total old bytes begins (take takes.count (lines_of bytes)) (fewer takes.count (came bytes front)))
-
-      by_end : (e : FeedEnd) → TakesFeed head total old bytes e new → IsPrefix new leader
-      by_end Read takes = first takes
-      by_end OutOfMemory takes = first takes
-      by_end Whole takes = subst (λ r. IsPrefix r.history leader) takes run
-      by_end Cut takes = subst (λ r. IsPrefix r.history leader) takes run
-      by_end (Bad n) takes = subst (λ r. IsPrefix r.history leader) takes run
-      by_end (Gap n) takes = subst (λ r. IsPrefix r.history leader) takes run
-      by_end Long takes = subst (λ r. IsPrefix r.history leader) takes run
+    pub feed_keeps : (total : ℕ) (old new : History) (bytes : List ℕ) (after : Option (List ℕ)) (end : FeedEnd) → IsPrefix bytes (feed_text head leader i j)
+        → IsPrefix old leader → TakesFeed head total old bytes after end new → IsPrefix new leader
+    feed_keeps total old new bytes after end front begins takes =
+        led_by head total old new bytes after end takes (λ h. IsPrefix h leader) (run_follows total old bytes front begins)
+        (λ count. lines_keep total old bytes begins (take count (lines_of bytes)) (fewer count (came bytes front)))
 
   -- ---- a whole feed
 
@@ -180,54 +198,48 @@ module _ (head : FeedHead) (leader : History) (is : IsHead head) (published : Is
       ap lines_of (append_assoc line (10 ∷ []) (flat_map ended lines)) ∙ lines_of-line line (flat_map ended lines) (All-head IsLineText line lines all)
       ∙ ap (λ ls. line ∷ ls) (lines_whole lines (All-tail IsLineText line lines all))
 
-  run_known : (total : ℕ) (old new : History) (bytes : List ℕ) (end : FeedEnd) → end ≢ OutOfMemory → end ≢ Read → TakesFeed head total old bytes end new
-      → feed_run head total old bytes ≡ record { history = new; end = end }
-  run_known total old new bytes Read remembered read takes = absurd (read refl)
-  run_known total old new bytes OutOfMemory remembered read takes = absurd (remembered refl)
-  run_known total old new bytes Whole remembered read takes = takes
-  run_known total old new bytes Cut remembered read takes = takes
-  run_known total old new bytes (Bad n) remembered read takes = takes
-  run_known total old new bytes (Gap n) remembered read takes = takes
-  run_known total old new bytes Long remembered read takes = takes
+  -- the run of a feed that came whole comes to its end, or is too long
+  pub run_comes : (j total : ℕ) (old : History) (bytes : List ℕ) → j ≤ sets leader → bytes ≡ feed_text head leader 1 j → IsPrefix old leader
+      → Arrives j (feed_run head total old bytes)
+  run_comes j total old bytes there is_text begins =
+      let ordered : 1 ≤ j + 1 = omega arith in
+      let one : 1 ≤ 1 = omega arith in
+      let whole : lines_of bytes ≡ feed_words 1 j one ordered there =
+      ap lines_of (is_text ∙ text_is 1 j one ordered there) ∙ lines_whole (feed_words 1 j one ordered there) (all_text 1 j one ordered there) in
+      let on = on_first 1 j one ordered there (Unit {0}) old (λ _. omega arith) in
+      let arrives = run_arrives j total (length bytes) (begun old) (feed_words 1 j one ordered there) begins on in
+      subst (Arrives j) (sym (ap (run_lines head total (length bytes) (begun old)) whole)) arrives
+
+  -- a whole feed of all sets brings all of a history that isn't closed
+  pub feed_brings_all : (total : ℕ) (old : History) → length (feed_text head leader 1 (sets leader)) ≤ total → IsPrefix old leader
+      → ends_closed leader ≡ false → (feed_run head total old (feed_text head leader 1 (sets leader))).history ≡ leader
+  feed_brings_all total old short begins unclosed =
+      let text = feed_text head leader 1 (sets leader) in
+      by (run_comes (sets leader) total old text (omega arith) refl begins) where
+        by : Arrives (sets leader) (feed_run head total old (feed_text head leader 1 (sets leader)))
+            → (feed_run head total old (feed_text head leader 1 (sets leader))).history ≡ leader
+        by (inl long) = absurd (never_long head total old (feed_text head leader 1 (sets leader)) short long)
+        by (inr came) = all_of (feed_run head total old (feed_text head leader 1 (sets leader))).history leader
+            (run_follows 1 (sets leader) (omega arith) (omega arith) (omega arith) total old (feed_text head leader 1 (sets leader))
+            (prefix_self (feed_text head leader 1 (sets leader))) begins)
+            came.1 unclosed
 
   -- a feed that came whole was taken whole
   pub feed_arrives : (j : ℕ) (d : Delivery) (old new : History) → ComesWhole head leader j d → IsPrefix old leader
-      → TakesFeed head d.total old d.bytes d.end new → IsCaughtUp j d new
+      → TakesFeed head d.total old d.bytes d.after d.end new → IsCaughtUp j d new
   feed_arrives j d old new comes begins takes =
-      let ordered : 1 ≤ j + 1 = omega arith in
-      let one : 1 ≤ 1 = omega arith in
-      let known = run_known d.total old new d.bytes d.end comes.remembered comes.read takes in
-      let whole : lines_of d.bytes ≡ feed_words 1 j one ordered comes.there =
-      ap lines_of (comes.whole ∙ text_is 1 j one ordered comes.there)
-      ∙ lines_whole (feed_words 1 j one ordered comes.there) (all_text 1 j one ordered comes.there) in
-      let on = on_first 1 j one ordered comes.there (Unit {0}) old (λ _. omega arith) in
-      let arrives = run_arrives j d.total (length d.bytes) (begun old) (feed_words 1 j one ordered comes.there) begins on in
-      let run : feed_run head d.total old d.bytes ≡ run_lines head d.total (length d.bytes) (begun old) (feed_words 1 j one ordered comes.there) =
-      ap (run_lines head d.total (length d.bytes) (begun old)) whole in
-      by_arrival (subst (Arrives j) (sym run ∙ known) arrives) where
+      let known = run_known head d.total old new d.bytes d.end comes.remembered comes.read takes.runs in
+      by_arrival (subst (Arrives j) known (run_comes j d.total old d.bytes comes.there comes.whole begins)) where
         by_arrival : Arrives j (record { history = new; end = d.end }) → IsCaughtUp j d new
         by_arrival (inl long) = absurd (comes.short long)
         by_arrival (inr came) = record { end = came.0; sets = came.1 }
 
 -- a feed adds to the history
-takes_grows : (head : FeedHead) (total : ℕ) (old new : History) (bytes : List ℕ) (end : FeedEnd) → TakesFeed head total old bytes end new → IsPrefix old new
-takes_grows head total old new bytes end takes = by_end end takes where
-  run : IsPrefix old (feed_run head total old bytes).history
-  run = run_grows head total (length bytes) (begun old) (lines_of bytes)
-
-  first : (takes : TakesLines head total old bytes new) → IsPrefix old new
-  first takes = subst (IsPrefix old) takes.history (run_grows head total (length bytes) (begun old) (take takes.count (lines_of bytes)))
-
-  by_end : (e : FeedEnd) → TakesFeed head total old bytes e new → IsPrefix old new
-  by_end Read takes = first takes
-  by_end OutOfMemory takes = first takes
-  by_end Whole takes = subst (λ r. IsPrefix old r.history) takes run
-  by_end Cut takes = subst (λ r. IsPrefix old r.history) takes run
-  by_end (Bad n) takes = subst (λ r. IsPrefix old r.history) takes run
-  by_end (Gap n) takes = subst (λ r. IsPrefix old r.history) takes run
-  by_end Long takes = subst (λ r. IsPrefix old r.history) takes run
-
--- ---- feeds one after another
+pub takes_grows : (head : FeedHead) (total : ℕ) (old new : History) (bytes : List ℕ) (after : Option (List ℕ)) (end : FeedEnd)
+    → TakesFeed head total old bytes after end new → IsPrefix old new
+takes_grows head total old new bytes after end takes =
+    led_by head total old new bytes after end takes (IsPrefix old) (run_grows head total (length bytes) (begun old) (lines_of bytes))
+    (λ count. run_grows head total (length bytes) (begun old) (take count (lines_of bytes)))
 
 module _ (g : Graph) (first : ℕ) (leader old : History) (graph : IsGraph g) (published : IsPublished (length g.ends) g.criteria first leader)
     (begins : IsPrefix old leader) where
@@ -252,7 +264,7 @@ module _ (g : Graph) (first : ℕ) (leader old : History) (graph : IsGraph g) (p
   keeps come none_yet = begins
   keeps come (then {ds} {mid} {new} d follows takes) =
       let from = last_comes ds d come in
-      feed_keeps head leader is published from.from from.to from.counted from.ordered from.there d.total mid new d.bytes d.end from.front
+      feed_keeps head leader is published from.from from.to from.counted from.ordered from.there d.total mid new d.bytes d.after d.end from.front
       (keeps (others_come ds d come) follows) takes
 
   -- and has all that came whole
@@ -263,9 +275,9 @@ module _ (g : Graph) (first : ℕ) (leader old : History) (graph : IsGraph g) (p
       elim (cases_push ds last d there) [
         | inl before ↦
             let caught = catches_up j d (others_come ds last come) follows before whole in
-            let more = sets_grow mid new (takes_grows head last.total mid new last.bytes last.end takes) in
+            let more = sets_grow mid new (takes_grows head last.total mid new last.bytes last.after last.end takes) in
             record { end = caught.end; sets = omega (arith, caught.sets, more) }
         | inr same ↦
             feed_arrives head leader is published j d mid new whole (keeps (others_come ds last come) follows)
-            (subst (λ (x : Delivery). TakesFeed head x.total mid x.bytes x.end new) (sym same) takes)
+            (subst (λ (x : Delivery). TakesFeed head x.total mid x.bytes x.after x.end new) (sym same) takes)
       ]

@@ -4,6 +4,7 @@ pub mod MeetsLemmas
 pub mod ChangeLemmas
 pub mod NextLemmas
 pub mod RunLemmas
+pub mod RefusalLemmas
 pub mod TakeLemmas
 pub mod WrittenLemmas
 pub mod BrokenLemmas

@@ -1,16 +1,17 @@
 -- What a follower comes to by the feeds of one leader.
-use Rattle.std.specs.Prelude.{◌≡◌, ◌≢◌, ℕ, ◌+◌, ◌≤◌, List, [], ◌∷◌, ◌++◌, length, All, Contains}
+use Rattle.std.specs.Prelude.{◌≡◌, ◌≢◌, ℕ, ◌+◌, ◌≤◌, List, [], ◌∷◌, ◌++◌, Option, false, length, All, Contains}
 use mathlib.Core.List.{IsPrefix}
 use Rattle.arc_graph.specs.Graph.{Graph, IsGraph}
 use Rattle.arc_graph.specs.History.{History, IsPublished, sets}
 use Rattle.epoch_follow.specs.declared.feed_end.FeedEnd.{FeedEnd}
-use Rattle.epoch_follow.specs.declared.feed_end.FeedEnd.TheVariants.{Whole, Long, Read, OutOfMemory}
-use Rattle.epoch_follow.specs.Takes.{TakesFeed}
+use Rattle.epoch_follow.specs.declared.feed_end.FeedEnd.TheVariants.{Whole, Long}
+use Rattle.epoch_follow.specs.Takes.{TakesFeed, feed_starved, is_read}
 use Rattle.epoch_follow.specs.Text.{FeedHead, feed_text, head_of}
 
--- a feed as it came over a link, how many of its bytes may be taken, and how it ended
+-- a feed as it came over a link, what of it was left there afterwards, how many of its bytes may be taken, and how it ended
 pub record Delivery : Type 0 where
   pub bytes : List ℕ
+  pub after : Option (List ℕ)
   pub total : ℕ
   pub end : FeedEnd
 
@@ -20,7 +21,7 @@ pub data Follows (head : FeedHead) (old : History) : List Delivery → History �
   begun : Follows head old [] old
   -- one more
   then : {ds : List Delivery} {mid new : History} (d : Delivery) → Follows head old ds mid
-      → TakesFeed head d.total mid d.bytes d.end new → Follows head old (ds ++ d ∷ []) new
+      → TakesFeed head d.total mid d.bytes d.after d.end new → Follows head old (ds ++ d ∷ []) new
 
 -- The bytes are those of a feed of some of the leader's sets, up to where the link broke.
 pub record ComesFrom (head : FeedHead) (leader : History) (bytes : List ℕ) : Type 0 where
@@ -43,8 +44,8 @@ pub record IsFollowed (g : Graph) (first : ℕ) (leader old : History) (ds : Lis
 pub record ComesWhole (head : FeedHead) (leader : History) (j : ℕ) (d : Delivery) : Type 0 where
   pub there : j ≤ sets leader
   pub whole : d.bytes ≡ feed_text head leader 1 j
-  pub remembered : d.end ≢ OutOfMemory
-  pub read : d.end ≢ Read
+  pub remembered : feed_starved d.end ≡ false
+  pub read : is_read d.end ≡ false
   pub short : d.end ≢ Long
 
 -- What a feed that came whole has done: it was taken whole, and the follower has these sets.

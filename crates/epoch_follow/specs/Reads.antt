@@ -1,16 +1,18 @@
 -- What a follower does with one line of a feed after another.
-use Rattle.std.specs.Prelude.{◌≡◌, ⊤, ℕ, ◌+◌, ◌<◌, ◌≤◌, ◌&&◌, Bool, true, false, List, [], ◌∷◌, ◌++◌, length, Option, Some, None, Result, Ok, Err}
+use Rattle.std.specs.Prelude.{◌≡◌, ◌⊎◌, ℕ, ◌+◌, ◌<◌, ◌≤◌, nat_lt, ◌&&◌, Bool, true, false, List, [], ◌∷◌, ◌++◌, length, Option, Some, None, IfSome, Result, Ok, Err}
+use Rattle.std.specs.Io.KnownBytes.{prepend_known}
+use Rattle.route_io.specs.Sources.{SourceState}
 use Rattle.arc_graph.specs.declared.change.Change.{Change}
-use Rattle.arc_graph.specs.History.{History, Operator, max_pending}
-use Rattle.line_text.specs.Lines.{lines_of}
+use Rattle.arc_graph.specs.History.{History, Operator, max_pending, sets}
+use Rattle.line_text.specs.Lines.{first_lf, lines_ended, lines_of}
 use Rattle.line_text.specs.Marks.{first_fault}
-use Rattle.line_text.specs.Reading.{Lines, TakesLine}
+use Rattle.line_text.specs.Reading.{InLimits, KnowsEnd, Lines, TakesLine}
 use Rattle.line_text.specs.declared.limits.LineFault.{LineFault}
 use Rattle.epoch_follow.specs.declared.due.Due.{Due}
 use Rattle.epoch_follow.specs.declared.due.Due.TheVariants as due
 use Rattle.epoch_follow.specs.declared.feed_end.FeedEnd.{FeedEnd}
 use Rattle.epoch_follow.specs.declared.feed_end.FeedEnd.TheVariants.{Whole, Cut, Read, OutOfMemory}
-use Rattle.epoch_follow.specs.Runs.{Place, State, begun, behind_line, end_by, last_epoch, number_in, run_lines}
+use Rattle.epoch_follow.specs.Runs.{Place, State, Step, begun, behind_line, end_by, last_epoch, number_in, run_lines}
 use Rattle.epoch_follow.specs.Runs.Place.{First, Between, Within}
 use Rattle.epoch_follow.specs.Runs.Step.{GoesOn, Ends}
 use Rattle.epoch_follow.specs.Takes.{is_read}
@@ -60,31 +62,62 @@ Awaits head operator due.Begin = operator.pending ≡ []
 Awaits head operator (due.Within epoch left) =
     (epoch ≤ last_epoch head operator.published + 1) × (length operator.pending + left ≤ max_pending)
 
+-- the test that a step takes memory: one change more is pending, or one set more is published
+abbrev pub needs_memory : History → Step → Bool
+needs_memory h (Ends end) = false
+needs_memory h (GoesOn new First) = false
+needs_memory h (GoesOn new Between) = nat_lt (sets h) (sets new)
+needs_memory h (GoesOn new (Within m)) = nat_lt 0 (length m.changes)
+
 -- what a line with these fields does, by the answer to it
 abbrev pub LineTells : FeedHead → ℕ → Operator → Due → List (List ℕ) → Operator → Result Due FeedEnd → Type 0
 LineTells head n old due fields new (Ok next) =
     (behind_line head n old.published (place_of due old.pending) fields ≡ GoesOn new.published (place_of next new.pending))
     × Awaits head new next
-LineTells head n old due fields new (Err OutOfMemory) = new.published ≡ old.published
+LineTells head n old due fields new (Err (OutOfMemory want)) =
+    (needs_memory old.published (behind_line head n old.published (place_of due old.pending) fields) ≡ true)
+    × (new.published ≡ old.published)
 LineTells head n old due fields new (Err end) =
     (behind_line head n old.published (place_of due old.pending) fields ≡ Ends end) × (new.published ≡ old.published)
 
 -- ---- all lines
 
+-- what is left of a feed: what the reader holds, and then what the source has left
+abbrev pub rest_behind : Lines → SourceState → Option (List ℕ)
+rest_behind lines source = prepend_known lines.held source.left
+
+-- No line was taken, and all of the rest is left.
+pub record LeavesRest (old new : Lines) (rest : List ℕ) (after : Option (List ℕ)) : Type 0 where
+  pub passed : new.passed ≡ old.passed
+  pub left : after ≡ Some rest
+
 -- The next line breaks a limit, and the feed ends by that.
-pub record BreaksBy (old : Lines) (rest : List ℕ) (end : FeedEnd) : Type 0 where
+pub record BreaksBy (old new : Lines) (rest : List ℕ) (after : Option (List ℕ)) (end : FeedEnd) : Type 0 where
   pub fault : LineFault
   pub some : 0 < length rest
   pub broken : first_fault old.limits old.passed rest ≡ Some fault
   pub known : end ≡ end_by fault (old.number + 1)
+  pub leaves : LeavesRest old new rest after
+
+-- The source failed before the end of its input, where no whole line was held.
+pub record FailsBefore (old new : Lines) (rest : List ℕ) (after : Option (List ℕ)) : Type 0 where
+  pub part : first_lf new.held ≡ length new.held
+  pub more : old.ended ≡ false
+  pub leaves : LeavesRest old new rest after
 
 -- what the answer to the next line says of the rest
 abbrev pub NextTells : Lines → Lines → List ℕ → Option (List ℕ) → Result Bool FeedEnd → Type 0
 NextTells old new rest after (Ok true) = TakesLine old new rest after
-NextTells old new rest after (Ok false) = rest ≡ []
-NextTells old new rest after (Err Read) = ⊤
-NextTells old new rest after (Err OutOfMemory) = ⊤
-NextTells old new rest after (Err end) = BreaksBy old rest end
+NextTells old new rest after (Ok false) = (rest ≡ []) × LeavesRest old new rest after
+NextTells old new rest after (Err Read) = FailsBefore old new rest after
+NextTells old new rest after (Err end) = BreaksBy old new rest after end
+
+-- What the next line does to a reader and a source, in which the reader knows the end of its input.
+pub record ReadsOn (old new : Lines) (before after : SourceState) (result : Result Bool FeedEnd) : Type 0 where
+  pub limits : new.limits ≡ old.limits
+  pub in_limits : InLimits new
+  pub knows_end : KnowsEnd new after
+  pub tells : IfSome (rest_behind old before) (λ rest. NextTells old new rest (rest_behind new after) result)
 
 -- what stands before the next line
 abbrev pub state_of : Operator → Due → Lines → State
@@ -95,11 +128,16 @@ state_of operator due lines = record {
   passed = lines.passed;
 }
 
--- The first lines of a feed led to this state, and the others are those of the rest.
-pub record HasRun (head : FeedHead) (total : ℕ) (old : History) (bytes : List ℕ) (state : State) (rest : List ℕ) : Type 0 where
+-- The first lines of a feed led to this state, and the others are those of the rest. An LF ends each of them, but for the last
+-- one at the end of input.
+pub record HasRun (head : FeedHead) (total : ℕ) (old : History) (bytes : List ℕ) (state : State) (ended : Bool) (rest : List ℕ)
+    : Type 0 where
   pub taken : List (List ℕ)
   pub parts : lines_of bytes ≡ taken ++ lines_of rest
-  pub size : length bytes ≡ state.passed + length rest
+  pub passed : List ℕ
+  pub behind : bytes ≡ passed ++ rest
+  pub size : length passed ≡ state.passed
+  pub count : (lines_ended passed ≡ length taken) ⊎ ((rest ≡ []) × (ended ≡ true))
   pub runs : (more : List (List ℕ))
       → run_lines head total (length bytes) (begun old) (taken ++ more) ≡ run_lines head total (length bytes) state more
 

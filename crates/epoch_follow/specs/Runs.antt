@@ -18,7 +18,7 @@ use Rattle.session_requests.specs.Readings.{operator_behind, pair_of}
 use Rattle.session_requests.specs.declared.operator.OperatorRequest.{OperatorRequest}
 use Rattle.session_requests.specs.declared.operator.OperatorRequest.TheVariants as asks
 use Rattle.epoch_follow.specs.declared.feed_end.FeedEnd.{FeedEnd}
-use Rattle.epoch_follow.specs.declared.feed_end.FeedEnd.TheVariants.{Whole, Cut, Bad, Gap, Long, Read, OutOfMemory}
+use Rattle.epoch_follow.specs.declared.feed_end.FeedEnd.TheVariants.{Whole, Cut, Bad, Gap, Long, Read}
 use Rattle.epoch_follow.specs.Text.{FeedHead}
 
 -- a line has at most 1,024 bytes, and the whole feed at most `total`
@@ -154,7 +154,6 @@ abbrev pub end_by : LineFault → ℕ → FeedEnd
 end_by fault.TooLong n = Bad n
 end_by fault.Total n = Long
 end_by fault.Read n = Read
-end_by fault.OutOfMemory n = OutOfMemory
 
 -- how many bytes a line takes behind `passed` of so many in all: its LF is one of them, which the last line may lack
 abbrev pub size_in : ℕ → ℕ → List ℕ → ℕ

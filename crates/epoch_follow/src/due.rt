@@ -163,17 +163,13 @@ fn pend<T: Store>(operator: &mut Operator<T>, change: Change) -> Result<(), OutO
     match change.weight {
         Some(weight) => match operator.set(change.arc.0, weight) {
             Ok(()) => Ok(()),
-            Err(fault) => {
-                prove!(matches!(&fault, SetFault::OutOfMemory));
-                Err(OutOfMemory)
-            }
+            Err(SetFault::OutOfMemory(want)) => Err(want),
+            Err(_) => unreachable!(),
         },
         None => match operator.shut(change.arc.0) {
             Ok(()) => Ok(()),
-            Err(fault) => {
-                prove!(matches!(&fault, ShutFault::OutOfMemory));
-                Err(OutOfMemory)
-            }
+            Err(ShutFault::OutOfMemory(want)) => Err(want),
+            Err(_) => unreachable!(),
         },
     }
 }
@@ -186,9 +182,7 @@ fn publish<T: Store, R: Wait>(rt: &R, operator: &mut Operator<T>) -> Result<(), 
 {
     match operator.publish(rt) {
         Ok(_) => Ok(()),
-        Err(fault) => {
-            prove!(matches!(&fault, PublishFault::OutOfMemory));
-            Err(OutOfMemory)
-        }
+        Err(PublishFault::OutOfMemory(want)) => Err(want),
+        Err(PublishFault::LastEpoch) => unreachable!(),
     }
 }

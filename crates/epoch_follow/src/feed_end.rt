@@ -19,7 +19,8 @@ pub enum FeedEnd {
     Long,
     /// The source failed.
     Read,
-    OutOfMemory,
+    /// Memory ran out, before the first line or at a line whose message wasn't taken then.
+    OutOfMemory(OutOfMemory),
 }
 
 impl FeedEnd {
@@ -31,7 +32,6 @@ impl FeedEnd {
             LineFault::TooLong => FeedEnd::Bad { line },
             LineFault::Total => FeedEnd::Long,
             LineFault::Read => FeedEnd::Read,
-            LineFault::OutOfMemory => FeedEnd::OutOfMemory,
         }
     }
 }
@@ -40,9 +40,9 @@ impl From<OutOfMemory> for FeedEnd {
     ghost use Rattle.std.specs.Prelude.{◌≡◌};
     ghost use Rattle.epoch_follow.specs.declared.feed_end.FeedEnd.TheVariants as end;
 
-    ghost from_gives = { λ _ e. e ≡ end.OutOfMemory };
+    ghost from_gives = { λ want e. e ≡ end.OutOfMemory want };
 
-    fn from(_: OutOfMemory) -> FeedEnd {
-        FeedEnd::OutOfMemory
+    fn from(want: OutOfMemory) -> FeedEnd {
+        FeedEnd::OutOfMemory(want)
     }
 }

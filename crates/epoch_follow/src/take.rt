@@ -1,10 +1,10 @@
 //! Feeds that a follower takes.
-ghost use Rattle.std.specs.Prelude.{◌≡◌, ◌<◌, ◌+◌, ◌^◌, [], None, IfSome, IfOk, OnOk, MatchBool, is_err};
+ghost use Rattle.std.specs.Prelude.{◌≡◌, ◌<◌, ◌^◌, [], None, IfSome, IfOk, OnOk, MatchBool};
 ghost use mathlib.Core.List.{IsPrefix};
 ghost use Rattle.route_io.specs.Sources.{ReadsFrom};
-ghost use Rattle.line_text.specs.Reading.{InLimits, begun as begun_lines, rest_of};
+ghost use Rattle.line_text.specs.Reading.{CountsLine, KnowsEnd, begun as begun_lines};
 ghost use Rattle.arc_graph.specs.Graph.{Match};
-ghost use Rattle.epoch_follow.specs.Reads.{NextTells, end_of, has_read_fault};
+ghost use Rattle.epoch_follow.specs.Reads.{ReadsOn, end_of, has_read_fault};
 ghost use Rattle.epoch_follow.specs.Runs.{feed_limits};
 ghost use Rattle.epoch_follow.specs.Takes.{TakesFeed, is_read};
 ghost use Rattle.epoch_follow.specs.Text.{head_of};
@@ -14,13 +14,13 @@ use crate::due::Due;
 use arc_graph::Graph;
 use epoch_store::{Operator, Store};
 use line_text::{LineLimits, Lines};
-use out_of_memory::OutOfMemory;
 use route_io::Source;
 use std::alloc::Global;
 use std::sync::Wait;
 
 /// Takes the epochs of a feed, each by one publication at the end of its message, and answers how the feed ended. No more than
 /// one message's changes are held. It may wait for readers.
+#[tactic(auto, using(crate::proofs::TakeLemmas::starved_at_first))]
 pub fn take_feed<T: Store, R: Wait, S: Source>(
     rt: &R,
     alloc: Global,
@@ -33,10 +33,10 @@ pub fn take_feed<T: Store, R: Wait, S: Source>(
     requires nothing_pending { operator.old.pending ≡ [] }
     requires line { limits.line ≡ 1024 }
     // Where the source tells its bytes, the history and the end are those of the feed's run. Where the source failed or memory
-    // ran out the history is that of the first lines.
+    // ran out the history is that of the lines before. Nothing is taken behind the end.
     ensures takes { IfSome (S.state source.old).left
         (λ bytes. TakesFeed (head_of graph.now T.origin.first) limits.total
-        operator.old.published bytes result operator.new.published) }
+        operator.old.published bytes (S.state source.new).left result operator.new.published) }
 
     // After every end nothing is pending, and what was published before stays.
     ensures nothing_pending { operator.new.pending ≡ [] }
@@ -50,7 +50,7 @@ pub fn take_feed<T: Store, R: Wait, S: Source>(
             Ok(due) => due.end(),
             Err(end) => end,
         },
-        Err(OutOfMemory) => FeedEnd::OutOfMemory,
+        Err(want) => FeedEnd::OutOfMemory(want),
     };
     operator.drop_pending();
     end
@@ -70,7 +70,8 @@ fn take_lines<T: Store, R: Wait, S: Source>(
     requires fits { lines.limits.total < 2 ^ 64 }
     ensures takes { IfSome (S.state source.old).left
         (λ bytes. TakesFeed (head_of graph.now T.origin.first) lines.limits.total
-        operator.old.published bytes (end_of result) operator.new.published) }
+        operator.old.published bytes (S.state source.new).left (end_of result)
+        operator.new.published) }
     ensures begins { IsPrefix operator.old.published operator.new.published }
     ensures source { ReadsFrom (S.state source.old) (S.state source.new)
         (is_read (end_of result)) }
@@ -88,14 +89,12 @@ fn next_line<S: Source>(source: &mut S, lines: &mut Lines) -> Result<bool, FeedE
     requires limits { lines.old.limits ≡ feed_limits lines.old.limits.total }
     requires fits { lines.old.limits.total < 2 ^ 64 }
     requires goes_on { lines.old.fault ≡ None }
-    ensures limits { lines.new.limits ≡ lines.old.limits }
+    requires knows_end { KnowsEnd lines.old (S.state source.old) }
     ensures goes_on { OnOk result (lines.new.fault ≡ None) }
     ensures counts { IfOk result (λ more. MatchBool more
-        ((lines.old.passed < lines.new.passed) × (lines.new.number ≡ lines.old.number + 1))
-        (Unit {0})) }
-    ensures in_limits { InLimits lines.new }
-    ensures tells { IfSome (rest_of lines.old (S.state source.old)) (λ rest. NextTells
-        lines.old lines.new rest (rest_of lines.new (S.state source.new)) result) }
+        (CountsLine lines.old lines.new) (Unit {0})) }
+    ensures reads { ReadsOn lines.old lines.new
+        (S.state source.old) (S.state source.new) result }
     ensures source { ReadsFrom (S.state source.old) (S.state source.new)
         (has_read_fault result) }
 {

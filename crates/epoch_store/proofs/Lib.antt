@@ -2,6 +2,8 @@ pub mod PrefixLemmas
 pub mod ChronicleLemmas
 pub mod PageNumberLemmas
 pub mod EpochLemmas
+pub mod LookLemmas
+pub mod MarkLemmas
 pub mod RuleLemmas
 pub mod OperatorLemmas
 pub mod ShownLemmas

@@ -35,13 +35,13 @@ abbrev pub HasSetFault : Origin → Operator → ℕ → List ℕ → SetFault �
 HasSetFault o operator k w set.Arc = ¬ HasArc (arcs_of o) k
 HasSetFault o operator k w set.Zero = HasArc (arcs_of o) k × IsZero w
 HasSetFault o operator k w set.Full = HasArc (arcs_of o) k × (¬ IsZero w) × (¬ MayPend operator)
-HasSetFault o operator k w set.OutOfMemory = Unit {0}
+HasSetFault o operator k w (set.OutOfMemory want) = Unit {0}
 
 -- why an arc isn't shut
 abbrev pub HasShutFault : Origin → Operator → ℕ → ShutFault → Type 0
 HasShutFault o operator k shut.Arc = ¬ HasArc (arcs_of o) k
 HasShutFault o operator k shut.Full = HasArc (arcs_of o) k × (¬ MayPend operator)
-HasShutFault o operator k shut.OutOfMemory = Unit {0}
+HasShutFault o operator k (shut.OutOfMemory want) = Unit {0}
 
 -- an epoch may follow
 abbrev pub MayPublish : Origin → Operator → Type 0
@@ -50,4 +50,4 @@ MayPublish o operator = last_number o operator.published < max_epoch
 -- why no epoch is published
 abbrev pub HasPublishFault : Origin → Operator → PublishFault → Type 0
 HasPublishFault o operator publish.LastEpoch = ¬ MayPublish o operator
-HasPublishFault o operator publish.OutOfMemory = Unit {0}
+HasPublishFault o operator (publish.OutOfMemory want) = Unit {0}

@@ -1,5 +1,5 @@
 -- What always holds of what readers find: the rule under which the operator and the readers step.
-use Rattle.std.specs.Prelude.{◌≡◌, ℕ, ◌≤◌, ◌<◌, Bool, false, List, [], ◌∷◌, length, replicate, slice_index}
+use Rattle.std.specs.Prelude.{◌≡◌, ℕ, ◌+◌, ◌≤◌, ◌<◌, Bool, false, List, [], ◌∷◌, length, replicate, slice_index}
 use mathlib.Core.Option.{some}
 use mathlib.Core.List.{IsPrefix}
 use lib.ListN.{get_elem?}
@@ -8,6 +8,7 @@ use Rattle.arc_graph.specs.Graph.{Weights}
 use Rattle.arc_graph.specs.Pages.{AgreeOnPage, pages_of}
 use Rattle.epoch_store.specs.Origin.{Origin, IsPublishedIn, arcs_of, last_number, last_weights}
 use Rattle.epoch_store.specs.Published.{Published, Publication, with_publication}
+use Rattle.epoch_store.specs.declared.sight.Sight.{Sight}
 
 -- since the epoch of a page's number, no change set has had an arc of the page
 abbrev pub ArePageNumbers : ℕ → History → List ℕ → Type 0
@@ -22,20 +23,27 @@ pub record IsEpoch (o : Origin) (p : Published) : Type 0 where
   pub pages : ArePageNumbers o.first p.history p.pages
   pub published : IsPublishedIn o p.history
 
+-- what a reader knows before its first look
+abbrev pub unsighted : Sight
+unsighted = record { looks = 0; seen = []; last = false }
+
 -- the history begins with what each has seen
-abbrev pub BeginsWithAll : History → List History → Type 0
-BeginsWithAll h views = (seat : ℕ) (v : History) → get_elem? views seat ≡ some v → IsPrefix v h
+abbrev pub BeginsWithAll : History → List Sight → Type 0
+BeginsWithAll h views = (seat : ℕ) (v : Sight) → get_elem? views seat ≡ some v → IsPrefix v.seen h
 
 -- the rule: an epoch stands, and its history begins with what each has seen
-pub record Stands (o : Origin) (p : Published) (views : List History) : Type 0 where
+pub record Stands (o : Origin) (p : Published) (views : List Sight) : Type 0 where
   pub epoch : IsEpoch o p
   pub seen : BeginsWithAll p.history views
 
--- What a look tells: an epoch was found, whose history is what was seen from then on; it begins with all that was seen before.
-pub record Looks (o : Origin) (before : History) (p : Published) (after : History) : Type 0 where
+-- What a look tells, which is counted: an epoch was found, whose history is what was seen from then on; it begins with all
+-- that was seen before. Whether no further epoch will come was known as it began.
+pub record Looks (o : Origin) (last : Bool) (before : Sight) (p : Published) (after : Sight) : Type 0 where
   pub epoch : IsEpoch o p
-  pub seen : after ≡ p.history
-  pub begins : IsPrefix before p.history
+  pub counted : after.looks ≡ before.looks + 1
+  pub seen : after.seen ≡ p.history
+  pub begins : IsPrefix before.seen p.history
+  pub known : after.last ≡ last
 
 -- A publication follows what is published: its history goes on from there, and leads to an epoch again.
 pub record MayFollow (o : Origin) (p : Published) (q : Publication) : Type 0 where

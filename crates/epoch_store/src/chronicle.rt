@@ -8,6 +8,7 @@ use crate::history::History;
 use crate::store::Store;
 use logbook::{Gain, Offer, Plain, Play, Rule, Seen, Start, Word};
 use std::marker::{Model, PhantomData};
+use std::sync::Wait;
 
 /// A word that all steps share counts the histories.
 pub struct Counted;
@@ -171,8 +172,26 @@ impl<S: Store> Keeper<S> {
         }
     }
 
-    /// Adds the history that the draft leads to. It doesn't where the count has reached its end.
-    pub(crate) fn add<M: Plain<Draft, History, u64>>(&mut self, draft: &Draft) -> Option<Witness<S>>
+    /// Adds the history that the draft leads to. It is added at the first try: nobody else has the count, and its 64 bits
+    /// don't come to their end.
+    pub(crate) fn add<M: Plain<Draft, History, u64>, R: Wait>(
+        &mut self,
+        rt: &R,
+        draft: &Draft,
+    ) -> Witness<S>
+        requires { M.state draft.now ≡ None }
+        ensures { result.history ≡ M.ask draft.now }
+    {
+        for _ in rt.forever() {
+            if let Some(added) = self.try_add::<M>(draft) {
+                return added;
+            }
+        }
+        unreachable!()
+    }
+
+    /// Adds the history that the draft leads to, unless somebody else has added one, or the count has reached its end.
+    fn try_add<M: Plain<Draft, History, u64>>(&mut self, draft: &Draft) -> Option<Witness<S>>
         requires { M.state draft.now ≡ None }
         ensures { IfSome result (λ w. w.history ≡ M.ask draft.now) }
     {

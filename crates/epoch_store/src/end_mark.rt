@@ -1,11 +1,13 @@
 //! The mark that no further epoch will come.
 //!
 //! It is a register of its own, in which its one change waits from the start. So a store is closed without memory.
-ghost use Rattle.std.specs.Prelude.{◌≡◌, ◌≤◌, [], ◌∷◌, drop, true, IfOk};
+ghost use Rattle.std.specs.Prelude.{◌≡◌, ◌+◌, ◌≤◌, [], ◌∷◌, drop, true, IfOk, OnOk};
 ghost use Rattle.epoch_store.specs.EndMark.{IsReady};
 ghost use Rattle.epoch_store.specs.Origin.{max_readers};
 ghost use Rattle.left_right.specs.Sides.{view};
 
+use crate::register::{StoreGone, append, enter};
+use crate::sight::MarkSight;
 use crossbeam_utils::rule::{Outcome, Protocol};
 use left_right::Absorb;
 use left_right::reader::Reader;
@@ -42,41 +44,45 @@ impl Absorb<Closing> for EndMark {
     }
 }
 
-/// A reader knows what it found last.
+/// A reader knows what it found last, and how often it has looked.
 pub struct MarkRule;
 
-impl Protocol<EndMark, bool> for MarkRule {
-    ghost use Rattle.std.specs.Prelude.{false};
+impl Protocol<EndMark, MarkSight> for MarkRule {
+    ghost use Rattle.epoch_store.specs.EndMark.{unlooked};
 
     ghost holds = { λ m views. Unit {0} };
 
-    ghost first = { false };
+    ghost first = { unlooked };
 }
 
-/// A look at the mark.
-pub(crate) struct LookAtMark;
+/// A look for the mark.
+pub(crate) struct LookForMark;
 
-impl Outcome<EndMark, bool> for LookAtMark {
-    ghost use Rattle.std.specs.Prelude.{◌≡◌};
+impl Outcome<EndMark, MarkSight> for LookForMark {
+    ghost use Rattle.epoch_store.specs.EndMark.{LooksForMark};
 
-    ghost then = { λ before _ m after. after ≡ m.closed };
+    ghost then = { λ before _ m after. LooksForMark before m after };
 }
 
-pub(crate) type MarkReader = Reader<EndMark, bool, MarkRule>;
+pub(crate) type MarkReader = Reader<EndMark, MarkSight, MarkRule>;
 
-pub(crate) type MarkWriter = Writer<EndMark, Closing, bool, MarkRule>;
+pub(crate) type MarkWriter = Writer<EndMark, Closing, MarkSight, MarkRule>;
 
 /// A mark that isn't set, for so many readers, with all that setting it takes.
-pub(crate) fn unset_mark(alloc: Global, readers: u32) -> Result<MarkWriter, OutOfMemory>
+pub(crate) fn unset_mark<R: Wait>(
+    rt: &R,
+    alloc: Global,
+    readers: u32,
+) -> Result<MarkWriter, OutOfMemory>
     requires one { 1 ≤ readers }
     requires most { readers ≤ max_readers }
     ensures { IfOk result (λ w. IsReady (drop w.behind w.log.items)) }
 {
     let (first, second) = (EndMark { closed: false }, EndMark { closed: false });
     let mut writer = MarkWriter::new(alloc, first, second, readers as usize)?;
-    if writer.append(Closing).is_err() {
+    if let Err(want) = append(rt, alloc, &mut writer, Closing) {
         let _lost = unsafe { ManuallyDrop::new_unchecked(writer) };
-        return Err(OutOfMemory);
+        return Err(want);
     }
     Ok(writer)
 }
@@ -86,20 +92,21 @@ pub(crate) fn set_mark<R: Wait>(writer: MarkWriter, rt: &R) -> MarkWriter
     requires { IsReady (drop writer.behind writer.log.items) }
     ensures { result.desk.shown.value.closed ≡ true }
 {
-    let (writer, shown) = writer.publish_as::<LookAtMark, R>(rt);
+    let (writer, shown) = writer.publish_as::<LookForMark, R>(rt);
     prove!(shown.is_ok());
     writer
 }
 
 /// Looks whether the mark is set, by a reader, which comes back.
-pub(crate) fn look_for_mark(reader: MarkReader) -> (MarkReader, Result<bool, OutOfMemory>)
-    ensures { IfOk result.1 (λ closed. closed ≡ view result.0.place) }
+pub(crate) fn look_for_mark(reader: MarkReader) -> (MarkReader, Result<bool, StoreGone>)
+    ensures found { IfOk result.1 (λ closed. closed ≡ (view result.0.place).closed) }
+    ensures counted { OnOk result.1 ((view result.0.place).looks ≡ (view reader.place).looks + 1) }
 {
-    match reader.enter_as::<LookAtMark>() {
+    match enter::<EndMark, MarkSight, MarkRule, LookForMark>(reader) {
         Ok(reading) => {
             let closed = reading.get().closed;
             (reading.leave(), Ok(closed))
         }
-        Err(reader) => (reader, Err(OutOfMemory)),
+        Err((reader, gone)) => (reader, Err(gone)),
     }
 }

@@ -9,7 +9,7 @@ pub enum SetFault {
     Zero,
     /// As many changes are pending as may be: 65,536.
     Full,
-    OutOfMemory,
+    OutOfMemory(OutOfMemory),
 }
 
 /// Why an arc isn't shut. The first that holds is told.
@@ -19,7 +19,7 @@ pub enum ShutFault {
     Arc,
     /// As many changes are pending as may be: 65,536.
     Full,
-    OutOfMemory,
+    OutOfMemory(OutOfMemory),
 }
 
 /// Why no epoch is published.
@@ -27,16 +27,16 @@ pub enum ShutFault {
 pub enum PublishFault {
     /// The current epoch has the greatest number, 2^32 - 1.
     LastEpoch,
-    OutOfMemory,
+    OutOfMemory(OutOfMemory),
 }
 
 impl From<OutOfMemory> for PublishFault {
     ghost use Rattle.std.specs.Prelude.{◌≡◌};
     ghost use Rattle.epoch_store.specs.declared.fault.PublishFault.TheVariants as fault;
 
-    ghost from_gives = { λ _ e. e ≡ fault.OutOfMemory };
+    ghost from_gives = { λ want e. e ≡ fault.OutOfMemory want };
 
-    fn from(_: OutOfMemory) -> PublishFault {
-        PublishFault::OutOfMemory
+    fn from(want: OutOfMemory) -> PublishFault {
+        PublishFault::OutOfMemory(want)
     }
 }

@@ -11,7 +11,9 @@ mod making;
 mod operator;
 mod published;
 mod reader;
+mod register;
 mod rule;
+mod sight;
 mod store;
 
 pub use chronicle::Chronicle;
@@ -21,4 +23,5 @@ pub use laws::closed_histories_go_no_further;
 pub use making::make;
 pub use operator::{Ended, Operator};
 pub use reader::{EpochReader, Snapshot};
+pub use register::StoreGone;
 pub use store::Store;

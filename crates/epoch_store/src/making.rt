@@ -1,6 +1,7 @@
 //! How a store is made.
 ghost use Rattle.std.specs.Prelude.{◌≡◌, ◌≤◌, ◌<◌, [], All, IfOk, vec_len};
 ghost use Rattle.epoch_store.specs.Origin.{max_readers};
+ghost use Rattle.epoch_store.specs.Readers.{unread};
 ghost use Rattle.epoch_store.specs.StoreRule.{opening_of};
 
 use crate::chronicle::{Chronicle, Witness};
@@ -14,11 +15,13 @@ use arc_graph::Weights;
 use out_of_memory::OutOfMemory;
 use std::alloc::Global;
 use std::mem::ManuallyDrop;
+use std::sync::Wait;
 
 /// Makes a store with an operator and so many readers, 1 to 16. The current epoch has the first number and these
 /// weights. All memory that closing it takes is taken here. A reader that is refused its place counts as want of memory; the
 /// memory of the store is lost then.
-pub fn make<S: Store>(
+pub fn make<S: Store, R: Wait>(
+    rt: &R,
     alloc: Global,
     chronicle: Chronicle,
     first: u32,
@@ -32,7 +35,7 @@ pub fn make<S: Store>(
     requires most { readers ≤ max_readers }
     ensures operator { IfOk result (λ r. r.0 ≡ record { published = []; pending = [] }) }
     ensures readers { IfOk result (λ r. vec_len r.1 ≡ readers) }
-    ensures unread { IfOk result (λ r. All (λ h. h ≡ []) r.1.items) }
+    ensures unread { IfOk result (λ r. All (λ x. x ≡ unread) r.1.items) }
 {
     let keeper = chronicle.into_keeper::<S>();
     let history = keeper.last();
@@ -40,16 +43,19 @@ pub fn make<S: Store>(
     let places = Vec::with_capacity(alloc, shown.len())?;
     let second = opening(alloc, first, weights.try_copy()?, &history)?;
     let opening = opening(alloc, first, weights, &history)?;
-    let mark = unset_mark(alloc, readers)?;
-    let Ok(writer) = StoreWriter::new(alloc, opening, second, readers as usize) else {
-        let _lost = unsafe { ManuallyDrop::new_unchecked(mark) };
-        return Err(OutOfMemory);
+    let mark = unset_mark(rt, alloc, readers)?;
+    let writer = match StoreWriter::new(alloc, opening, second, readers as usize) {
+        Ok(writer) => writer,
+        Err(want) => {
+            let _lost = unsafe { ManuallyDrop::new_unchecked(mark) };
+            return Err(want.into());
+        }
     };
     match seat_readers(&writer, &mark, shown, places) {
         Ok(seated) => Ok((Operator::new(alloc, first, keeper, writer, mark), seated)),
-        Err(_) => {
+        Err(want) => {
             let _lost = unsafe { ManuallyDrop::new_unchecked((writer, mark)) };
-            Err(OutOfMemory)
+            Err(want)
         }
     }
 }
@@ -105,7 +111,7 @@ fn seat_readers<S: Store>(
     requires unread { All (λ h. h ≡ []) snapshots.items }
     requires vacant { vec_len places ≡ 0 }
     ensures readers { IfOk result (λ v. vec_len v ≡ vec_len snapshots) }
-    ensures unread { IfOk result (λ v. All (λ h. h ≡ []) v.items) }
+    ensures unread { IfOk result (λ v. All (λ x. x ≡ unread) v.items) }
 {
     let mut rest = snapshots;
     let mut seated = places;

@@ -14,7 +14,8 @@ use crate::end_mark::{MarkWriter, set_mark};
 use crate::fault::{PublishFault, SetFault, ShutFault};
 use crate::published::{Publication, Published};
 use crate::reader::EpochReader;
-use crate::rule::{Look, StoreWriter};
+use crate::register::append;
+use crate::rule::{Look, MoreMayCome, StoreWriter};
 use crate::store::Store;
 use arc_graph::Change;
 use core::mem::replace_with;
@@ -172,7 +173,7 @@ impl<S: Store> Operator<S> {
             arc: ArcNo(arc),
             weight: Some(w),
         };
-        self.add(change).map_err(|_| SetFault::OutOfMemory)
+        self.add(change).map_err(SetFault::OutOfMemory)
     }
 
     /// Asks that an arc be shut with the next epoch, whether it is shut already or not.
@@ -193,7 +194,7 @@ impl<S: Store> Operator<S> {
             arc: ArcNo(arc),
             weight: None,
         };
-        self.add(change).map_err(|_| ShutFault::OutOfMemory)
+        self.add(change).map_err(ShutFault::OutOfMemory)
     }
 
     /// Gives up all pending changes. It takes no memory.
@@ -216,21 +217,20 @@ impl<S: Store> Operator<S> {
             return Err(PublishFault::LastEpoch);
         }
         let number = self.number + 1;
-        self.draft.sets.reserve(1).map_err(|_| OutOfMemory)?;
-        let publication = next_epoch(self.alloc, number, &self.draft, &mut self.keeper)?;
-        hand_over(rt, &mut self.writer, publication)?;
+        self.draft.sets.reserve(1).map_err(OutOfMemory::from)?;
+        let publication = next_epoch(rt, self.alloc, number, &self.draft, &mut self.keeper)?;
+        hand_over(rt, self.alloc, &mut self.writer, publication)?;
         self.draft.publish(self.alloc);
         self.number = number;
         Ok(number)
     }
 
-    /// Brings a reader's look to what is published now.
-    pub fn tell(&self, reader: &mut EpochReader<S>) -> Result<(), OutOfMemory>
-        ensures published { OnOk result (reader.new ≡ self.now.published) }
-        ensures begins { IsPrefix reader.old reader.new }
-        ensures unchanged { OnErr result (reader.new ≡ reader.old) }
+    /// Brings a reader to what is published now. Its first look finds that, since nothing is published meanwhile.
+    pub fn tell<R: Wait>(&self, rt: &R, reader: &mut EpochReader<S>)
+        ensures published { reader.new.seen ≡ self.now.published }
+        ensures begins { IsPrefix reader.old.seen reader.new.seen }
     {
-        reader.look(Some((self.writer.published().history.again(), false)))
+        reader.look_until(rt, &self.writer.published().history, false);
     }
 
     /// Ends the history. Pending changes aren't published. It takes no memory, and may wait for readers.
@@ -287,7 +287,8 @@ impl<S: Store> Ended<S> {
 }
 
 /// The publication of what is pending.
-fn next_epoch<S: Store>(
+fn next_epoch<S: Store, R: Wait>(
+    rt: &R,
     alloc: Global,
     number: u32,
     draft: &Draft,
@@ -298,7 +299,7 @@ fn next_epoch<S: Store>(
         ≡ epoch_of number draft.now.sets.items draft.now.pending.items) }
 {
     let changes = Vec::from_slice(alloc, &draft.pending)?;
-    let history = keeper.add::<Publishing>(draft).ok_or(OutOfMemory)?;
+    let history = keeper.add::<Publishing, R>(rt, draft);
     Ok(Publication {
         number,
         changes,
@@ -309,6 +310,7 @@ fn next_epoch<S: Store>(
 /// Hands a publication over to the readers. Nothing changes where there is no memory for it.
 fn hand_over<S: Store, R: Wait>(
     rt: &R,
+    alloc: Global,
     writer: &mut StoreWriter<S>,
     publication: Publication<S>,
 ) -> Result<(), OutOfMemory>
@@ -320,13 +322,9 @@ fn hand_over<S: Store, R: Wait>(
         ≡ writer.old.desk.shown.value) }
     ensures idle { drop writer.new.behind writer.new.log.items ≡ [] }
 {
-    match writer.append(publication) {
-        Ok(()) => {
-            replace_with(writer, rt, show::<S, R>);
-            Ok(())
-        }
-        Err(_) => Err(OutOfMemory),
-    }
+    append(rt, alloc, writer, publication)?;
+    replace_with(writer, rt, show::<S, R>);
+    Ok(())
 }
 
 /// Shows the one publication that waits to the readers.
@@ -336,7 +334,7 @@ fn show<S: Store, R: Wait>(writer: StoreWriter<S>, rt: &R) -> (StoreWriter<S>, (
         writer.desk.shown.value (drop writer.behind writer.log.items) }
     ensures idle { drop result.0.behind result.0.log.items ≡ [] }
 {
-    let (writer, shown) = writer.publish_as::<Look<S>, R>(rt);
+    let (writer, shown) = writer.publish_as::<Look<S, MoreMayCome>, R>(rt);
     prove!(shown.is_ok());
     (writer, ())
 }

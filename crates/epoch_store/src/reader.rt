@@ -1,21 +1,25 @@
 //! The readers of a store.
-ghost use Rattle.std.specs.Prelude.{◌≡◌, ◌<◌, ◌↔◌, false, [], length, Some, IfSome, IsOk, OnOk, OnErr};
+ghost use Rattle.std.specs.Prelude.{◌≡◌, ◌+◌, ◌<◌, true, false, [], length, OnOk, OnErr};
 ghost use mathlib.Core.List.{IsPrefix};
 ghost use Rattle.arc_graph.specs.History.{ends_closed};
 ghost use Rattle.left_right.specs.Sides.{view};
 ghost use Rattle.epoch_store.specs.Origin.{IsPublishedIn, arcs_of, criteria_of, last_number, last_weights};
+ghost use Rattle.epoch_store.specs.EndMark.{unlooked};
 ghost use Rattle.epoch_store.specs.Published.{ended_if};
-ghost use Rattle.epoch_store.specs.StoreRule.{IsEpoch, IsShown};
+ghost use Rattle.epoch_store.specs.Readers.{HasLooked, unread};
+ghost use Rattle.epoch_store.specs.StoreRule.{IsEpoch, IsShown, unsighted};
 
 use crate::chronicle::Witness;
 use crate::end_mark::{MarkReader, look_for_mark};
 use crate::operator::Ended;
 use crate::published::Published;
-use crate::rule::{Look, StoreReader};
+use crate::register::{StoreGone, enter};
+use crate::rule::{Foresight, Look, MoreMayCome, NoneWillCome, StoreReader, StoreRule};
+use crate::sight::Sight;
 use crate::store::Store;
 use arc_graph::Weights;
-use out_of_memory::OutOfMemory;
 use std::marker::Model;
+use std::sync::Wait;
 
 /// An epoch, whole.
 #[derive(Debug, Drop)]
@@ -99,8 +103,8 @@ pub(crate) struct Readers<S: Store> {
     pub mark: MarkReader,
 }
 
-/// A reader, with a snapshot of its own. Contracts see the history that it has seen, was told of or has learnt; the
-/// snapshot is that history's last epoch.
+/// A reader, with a snapshot of its own. Contracts see the history that it has seen or has learnt, whose last epoch the
+/// snapshot is, and its looks.
 #[derive(Drop)]
 pub struct EpochReader<S: Store> {
     /// None during a look alone.
@@ -109,24 +113,30 @@ pub struct EpochReader<S: Store> {
 }
 
 impl<S: Store> Model for EpochReader<S> {
-    ghost use Rattle.arc_graph.specs.History.{History};
+    ghost use Rattle.epoch_store.specs.EndMark.{unlooked};
     ghost use Rattle.epoch_store.specs.Published.{ended_if};
+    ghost use Rattle.epoch_store.specs.Readers.{EpochReader};
+    ghost use Rattle.epoch_store.specs.StoreRule.{unsighted};
     ghost use Rattle.left_right.specs.Sides.{view as seen_by};
-    ghost use Rattle.std.specs.Prelude.{MatchOption};
-    ghost use mathlib.Core.List.{IsPrefix};
+    ghost use Rattle.std.specs.Prelude.{◌≡◌, MatchOption, option_map, unwrap_or};
 
-    ghost Value = { History };
+    ghost Value = { EpochReader };
 
-    ghost view = { λ r. r.shown };
+    ghost view = { λ r.
+        let sight = unwrap_or (option_map (λ x. seen_by x.epochs.place) r.readers) unsighted in
+        let mark = unwrap_or (option_map (λ x. seen_by x.mark.place) r.readers) unlooked in
+        record { seen = r.shown; looks = sight.looks; mark_looks = mark.looks; marked = mark.closed } };
 
-    ghost invariant = { λ r. MatchOption r.readers ⊥
-        (λ x. IsPrefix r.shown (ended_if (seen_by x.mark.place) (seen_by x.epochs.place))) };
+    ghost invariant = { λ r. MatchOption r.readers ⊥ (λ x. r.shown
+        ≡ ended_if (seen_by x.epochs.place).last (seen_by x.epochs.place).seen) };
 }
 
 impl<S: Store> EpochReader<S> {
     pub(crate) fn new(readers: Readers<S>, shown: Shown<S>) -> EpochReader<S>
-        requires { IsPrefix shown (view readers.epochs.place) }
-        ensures { result ≡ shown }
+        requires unsighted { view readers.epochs.place ≡ unsighted }
+        requires unlooked { view readers.mark.place ≡ unlooked }
+        requires unread { shown ≡ [] }
+        ensures { result ≡ unread }
     {
         EpochReader {
             readers: Some(readers),
@@ -134,63 +144,62 @@ impl<S: Store> EpochReader<S> {
         }
     }
 
-    /// Looks at what is published. It waits for nobody and takes no memory; a refused look counts as want of it.
-    pub fn read(&mut self) -> Result<(), OutOfMemory>
-        ensures begins { IsPrefix self.old self.new }
-        ensures unchanged { OnErr result (self.new ≡ self.old) }
+    /// Looks at what is published: first for the end mark, and then at the epoch, so that it is the last where the mark is
+    /// set. Who knows that no more will come needn't look. It waits for nobody and takes no memory.
+    pub fn read(&mut self) -> Result<(), StoreGone>
+        ensures looked { OnOk result (HasLooked self.old self.new) }
+        ensures begins { IsPrefix self.old.seen self.new.seen }
+        ensures unchanged { OnErr result ((self.new.seen ≡ self.old.seen)
+            × (self.new.looks ≡ self.old.looks)) }
     {
-        self.look(None)
+        if self.shown.snapshot.closed {
+            return Ok(());
+        }
+        let readers = self.readers.take().unwrap();
+        let (readers, looked) = look_by(readers, &mut self.shown);
+        self.readers = Some(readers);
+        looked
     }
 
     /// The epoch that was seen last, whole, as it was published.
     pub fn snapshot(&self) -> &Snapshot
-        ensures number { result.now.number ≡ last_number S.origin self.now }
-        ensures closed { result.now.closed ≡ ends_closed self.now }
-        ensures weights { result.now.weights ≡ last_weights S.origin self.now }
-        ensures published { IsPublishedIn S.origin self.now }
+        ensures number { result.now.number ≡ last_number S.origin self.now.seen }
+        ensures closed { result.now.closed ≡ ends_closed self.now.seen }
+        ensures weights { result.now.weights ≡ last_weights S.origin self.now.seen }
+        ensures published { IsPublishedIn S.origin self.now.seen }
         ensures criteria { result.now.weights.criteria ≡ criteria_of S.origin }
         ensures arcs { length result.now.weights.states ≡ arcs_of S.origin }
     {
         self.shown.last_epoch()
     }
 
-    /// Goes on to the last epoch of a store that is closed.
-    pub fn learn(&mut self, ended: &Ended<S>) -> Result<(), OutOfMemory>
-        ensures learnt { OnOk result (self.new ≡ ended.now) }
-        ensures begins { IsPrefix self.old self.new }
-        ensures unchanged { OnErr result (self.new ≡ self.old) }
+    /// Goes on to the last epoch of a store that is closed. Its first look finds that.
+    pub fn learn<R: Wait>(&mut self, rt: &R, ended: &Ended<S>)
+        ensures learnt { self.new.seen ≡ ended.now }
+        ensures begins { IsPrefix self.old.seen self.new.seen }
     {
-        self.look(Some((ended.writer.published().history.again(), true)))
+        self.look_until(rt, &ended.writer.published().history, true);
     }
 
-    /// Looks once, and goes on to what it finds; where a history is named, open or closed, only if it finds that one. A
-    /// closed history goes no further.
-    pub(crate) fn look(&mut self, only: Option<(Witness<S>, bool)>) -> Result<(), OutOfMemory>
-        ensures named { OnOk result (IfSome only (λ w. self.new ≡ ended_if w.1 w.0.history)) }
-        ensures begins { IsPrefix self.old self.new }
-        ensures unchanged { OnErr result (self.new ≡ self.old) }
+    /// Looks until it finds this history, open or closed.
+    pub(crate) fn look_until<R: Wait>(&mut self, rt: &R, history: &Witness<S>, closed: bool)
+        ensures found { self.new.seen ≡ ended_if closed history.now.history }
+        ensures begins { IsPrefix self.old.seen self.new.seen }
     {
-        if self.shown.snapshot.closed {
-            return expect(&self.shown.history, true, only);
+        for _ in rt.forever() {
+            let looked = self.read().is_ok();
+            if looked && self.has_come_to(history, closed) {
+                return;
+            }
         }
-        let readers = self.readers.take().unwrap();
-        let (readers, taken) = look_by(readers, &mut self.shown, only);
-        self.readers = Some(readers);
-        taken
+        unreachable!()
     }
-}
 
-/// Refuses a history, open or closed, where another one is named.
-fn expect<S: Store>(
-    history: &Witness<S>,
-    closed: bool,
-    only: Option<(Witness<S>, bool)>,
-) -> Result<(), OutOfMemory>
-    ensures { IsOk result ↔ IfSome only (λ w. (w.0 ≡ history.now) × (w.1 ≡ closed)) }
-{
-    match only {
-        Some((named, ended)) if ended != closed || !named.agrees(history) => Err(OutOfMemory),
-        _ => Ok(()),
+    /// Whether it has seen this history last, open or closed.
+    fn has_come_to(&self, history: &Witness<S>, closed: bool) -> bool
+        ensures { result ≡ true → self.now.seen ≡ ended_if closed history.now.history }
+    {
+        self.shown.snapshot.closed == closed && self.shown.history.agrees(history)
     }
 }
 
@@ -198,49 +207,53 @@ fn expect<S: Store>(
 fn look_by<S: Store>(
     readers: Readers<S>,
     shown: &mut Shown<S>,
-    only: Option<(Witness<S>, bool)>,
-) -> (Readers<S>, Result<(), OutOfMemory>)
-    requires { IsPrefix shown.old (view readers.epochs.place) }
-    ensures takes_in { OnOk result.1 (shown.new
-        ≡ ended_if (view result.0.mark.place) (view result.0.epochs.place)) }
-    ensures named { OnOk result.1 (IfSome only (λ w. shown.new ≡ ended_if w.1 w.0.history)) }
+) -> (Readers<S>, Result<(), StoreGone>)
+    requires { shown.old ≡ (view readers.epochs.place).seen }
+    ensures found { OnOk result.1 (shown.new
+        ≡ ended_if (view result.0.epochs.place).last (view result.0.epochs.place).seen) }
+    ensures looks { OnOk result.1 ((view result.0.epochs.place).looks
+        ≡ (view readers.epochs.place).looks + 1) }
+    ensures mark_looks { OnOk result.1 ((view result.0.mark.place).looks
+        ≡ (view readers.mark.place).looks + 1) }
+    ensures order { OnOk result.1 ((view result.0.epochs.place).last
+        ≡ (view result.0.mark.place).closed) }
+    ensures unclosed { OnOk result.1 (ends_closed (view result.0.epochs.place).seen ≡ false) }
     ensures begins { IsPrefix shown.old shown.new }
-    ensures seen { IsPrefix shown.new
-        (ended_if (view result.0.mark.place) (view result.0.epochs.place)) }
-    ensures unchanged { OnErr result.1 (shown.new ≡ shown.old) }
+    ensures unchanged { OnErr result.1 ((shown.new ≡ shown.old)
+        × (view result.0.epochs.place ≡ view readers.epochs.place)) }
 {
     let Readers { epochs, mark } = readers;
     let (mark, closed) = look_for_mark(mark);
-    let (epochs, taken) = match closed {
-        Ok(closed) => look_at_epoch(epochs, shown, closed, only),
-        Err(refused) => (epochs, Err(refused)),
+    let (epochs, looked) = match closed {
+        Ok(true) => look_at_epoch::<S, NoneWillCome>(epochs, shown, true),
+        Ok(false) => look_at_epoch::<S, MoreMayCome>(epochs, shown, false),
+        Err(gone) => (epochs, Err(gone)),
     };
-    (Readers { epochs, mark }, taken)
+    (Readers { epochs, mark }, looked)
 }
 
 /// Looks at the epoch that is published, by a reader, which comes back. It is the last where `closed`.
-fn look_at_epoch<S: Store>(
+fn look_at_epoch<S: Store, F: Foresight>(
     reader: StoreReader<S>,
     shown: &mut Shown<S>,
     closed: bool,
-    only: Option<(Witness<S>, bool)>,
-) -> (StoreReader<S>, Result<(), OutOfMemory>)
-    requires { IsPrefix shown.old (view reader.place) }
-    ensures takes_in { OnOk result.1 (shown.new ≡ ended_if closed (view result.0.place)) }
-    ensures named { OnOk result.1 (IfSome only (λ w. shown.new ≡ ended_if w.1 w.0.history)) }
+) -> (StoreReader<S>, Result<(), StoreGone>)
+    requires seen { shown.old ≡ (view reader.place).seen }
+    requires known { closed ≡ F.last }
+    ensures found { OnOk result.1 (shown.new
+        ≡ ended_if (view result.0.place).last (view result.0.place).seen) }
+    ensures looks { OnOk result.1 ((view result.0.place).looks ≡ (view reader.place).looks + 1) }
+    ensures known { OnOk result.1 ((view result.0.place).last ≡ closed) }
+    ensures unclosed { OnOk result.1 (ends_closed (view result.0.place).seen ≡ false) }
     ensures begins { IsPrefix shown.old shown.new }
-    ensures seen { IsPrefix shown.new (ended_if closed (view result.0.place)) }
-    ensures unchanged { OnErr result.1 (shown.new ≡ shown.old) }
+    ensures unchanged { OnErr result.1 ((shown.new ≡ shown.old)
+        × (view result.0.place ≡ view reader.place)) }
 {
-    match reader.enter_as::<Look<S>>() {
+    match enter::<Published<S>, Sight, StoreRule<S>, Look<S, F>>(reader) {
         Ok(reading) => {
-            let published = reading.get();
-            if let Err(refused) = expect(&published.history, closed, only) {
-                return (reading.leave(), Err(refused));
-            }
-            shown.take_over(published, closed);
+            shown.take_over(reading.get(), closed);
             (reading.leave(), Ok(()))
         }
-        Err(reader) => (reader, Err(OutOfMemory)),
+        Err((reader, gone)) => (reader, Err(gone)),
     }
 }

@@ -12,7 +12,7 @@ use Rattle.line_text.specs.Fields.{is_blank, is_filled, has_byte, fields_of, Beg
 -- ---- the first field
 
 -- a blank in front of a text counts for nothing
-fields_of-blank : (byte : ℕ) (text : List ℕ) → is_blank byte ≡ true → fields_of (byte ∷ text) ≡ fields_of text
+pub fields_of-blank : (byte : ℕ) (text : List ℕ) → is_blank byte ≡ true → fields_of (byte ∷ text) ≡ fields_of text
 fields_of-blank byte text blank = ap (filter has_byte) (slice_split-cons_yes is_blank byte text blank)
 
 fields_of-blanks : (blanks text : List ℕ) → AllPass is_blank blanks → fields_of (blanks ++ text) ≡ fields_of text
@@ -27,7 +27,7 @@ module _ (field : List ℕ) (some : 0 < length field) (none_blank : All (λ byte
   keeps parts =
       ap (λ b. cond b (field ∷ filter has_byte parts) (filter has_byte parts)) (lt-ltb 0 (length field) some)
 
-  fields_of-field : (rest : List ℕ) → BeginsBlank rest → fields_of (field ++ rest) ≡ field ∷ fields_of rest
+  pub fields_of-field : (rest : List ℕ) → BeginsBlank rest → fields_of (field ++ rest) ≡ field ∷ fields_of rest
   fields_of-field [] begins = ap fields_of (append-nil field) ∙ ap (filter has_byte) (slice_split_none is_blank field none_blank) ∙ keeps []
   fields_of-field (blank ∷ rest) begins =
       ap (filter has_byte) (slice_split_at is_blank field blank rest none_blank begins) ∙ keeps (slice_split is_blank rest)
@@ -113,7 +113,7 @@ split-append (byte ∷ front) blank rest e =
     split-step byte (slice_split is_blank (front ++ blank ∷ rest)) (slice_split is_blank front) (slice_split is_blank rest)
     (split-append front blank rest e) (omega (arith, length-slice_split is_blank front)) (is_blank byte)
 
-fields_of-append : (front rest : List ℕ) → BeginsBlank rest → fields_of (front ++ rest) ≡ fields_of front ++ fields_of rest
+pub fields_of-append : (front rest : List ℕ) → BeginsBlank rest → fields_of (front ++ rest) ≡ fields_of front ++ fields_of rest
 fields_of-append front [] begins = ap fields_of (append-nil front) ∙ sym (append-nil (fields_of front))
 fields_of-append front (blank ∷ rest) begins =
     ap (filter has_byte) (split-append front blank rest begins)

@@ -1,6 +1,7 @@
 pub mod AdvancesLemmas
 pub mod FieldLemmas
 pub mod FillsLemmas
+pub mod HttpLemmas
 pub mod LineLemmas
 pub mod NumeralLemmas
 pub mod RefillsLemmas

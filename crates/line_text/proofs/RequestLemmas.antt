@@ -1,6 +1,6 @@
 -- The next request, step by step.
-use Rattle.std.proofs.Common.{◌≡◌, ℕ, ◌+◌, ◌-◌, ◌<◌, ◌≤◌, ◌||◌, nat_lt, max, Bool, true, false, cond, List, [], ◌∷◌, ◌++◌, Option, Some, None, IfSome, Result, Ok, Err, length, drop, refl, sym, ap, subst, ◌∙◌, arith, append_assoc, length-append}
-use Rattle.std.proofs.Math.Seq.{drop-append-add, drop-append_seam}
+use Rattle.std.proofs.Common.{◌≡◌, ℕ, ◌+◌, ◌-◌, ◌<◌, ◌≤◌, ◌||◌, nat_lt, max, Bool, true, false, cond, List, [], ◌∷◌, ◌++◌, Option, Some, None, IfSome, Result, Ok, Err, length, drop, take, is_some, refl, sym, ap, subst, ◌∙◌, arith, append_assoc, length-append}
+use Rattle.std.proofs.Math.Seq.{drop-append-add, drop-append_seam, take-append-add}
 use Rattle.std.proofs.lemmas.Bool.{lt-ltb, le-ltb}
 use Rattle.std.proofs.lemmas.Bool.Decides.{nat_tests}
 use Rattle.std.proofs.lemmas.List.{append-nil, length-drop}
@@ -12,21 +12,25 @@ use Rattle.line_text.specs.declared.limits.LineFault.TheVariants.{Total, Read}
 use Rattle.line_text.specs.declared.limits.LineLimits.{LineLimits}
 use Rattle.line_text.specs.declared.limits.Request.{Request}
 use Rattle.line_text.specs.declared.limits.Request.TheVariants.{Whole, Long}
+use Rattle.line_text.specs.Http.{is_http}
+use Rattle.line_text.specs.LastFields.{IsSkipped}
+use Rattle.line_text.specs.declared.http.LastField.{LastField}
 use Rattle.line_text.specs.Lines.{first_lf, raw_line, after_line, line_size, without_cr}
 use Rattle.line_text.specs.Pieces.{Refills}
 use Rattle.line_text.specs.Reading.{CountsLine, KnowsEnd, Lines, LosesNone, left_for, rest_of}
 use Rattle.line_text.specs.Requests.{request_by, first_request, request_of, request_text, RequestCounts, CountsEnd, CountsFault, FailsRead, PassesPart, TakesFirst, TellsRequest, Requests}
-use Rattle.line_text.specs.RequestSteps.{request_behind, past_request, TakesEnded, LacksEnd, EndsPast, EndsInput, without_held}
+use Rattle.line_text.specs.RequestSteps.{request_behind, past_request, TakesEnded, LacksEnd, EndsPast, EndsInput, skipped_with, without_held}
 use Rattle.line_text.proofs.LineLemmas.{BeginsAlike, begins_alike, begins_alike-nil, first_lf-le, first_lf-front, first_lf-grows, first_lf-part, length-raw_line, length-without_cr, lines_of-first}
 use Rattle.line_text.proofs.AdvancesLemmas.{ended_behind, ends_by, held_same, known, loses_none-kept, loses_none-read, none_left, rest_grown}
 
 -- Bytes of the first line were passed, if it is too long, others are held behind them, and there is no current line.
-pub record HoldsPart (old now : Lines) (cut : Bool) (before after : SourceState) : Type 0 where
+pub record HoldsPart (old now : Lines) (seen : Option LastField) (before after : SourceState) : Type 0 where
   pub front : List ℕ
   pub stays : now ≡ record old { held = now.held; text = []; passed = old.passed + length front; ended = now.ended }
   pub no_lf : first_lf front ≡ length front
-  pub long : cut ≡ true → old.limits.line < length front
-  pub whole : cut ≡ false → front ≡ []
+  pub shows : IsSkipped seen front
+  pub long : is_some seen ≡ true → old.limits.line < length front
+  pub whole : is_some seen ≡ false → front ≡ []
   pub rest : Keeps (rest_of old before) (prepend_known (front ++ now.held) (left_for now after))
   pub loses_none : LosesNone old now before after
   pub stays_ended : old.ended ≡ true → now.ended ≡ true
@@ -37,6 +41,7 @@ pub record HoldsPart (old now : Lines) (cut : Bool) (before after : SourceState)
 
 -- The first line with a part in front that was passed, and with more behind what is held.
 record BeginsBehind (front held more : List ℕ) : Type 0 where
+  raw : raw_line (front ++ (held ++ more)) ≡ front ++ raw_line held
   lf : first_lf (front ++ (held ++ more)) ≡ length front + first_lf held
   size : line_size (front ++ (held ++ more)) ≡ length front + line_size held
   behind : after_line (front ++ (held ++ more)) ≡ after_line held ++ more
@@ -47,8 +52,11 @@ begins_behind front held more no_lf alike =
     let parted = first_lf-front front rest no_lf in
     let same : first_lf rest ≡ first_lf held = sym (length-raw_line rest) ∙ ap length alike.raw ∙ length-raw_line held in
     let further : length front + first_lf rest + 1 ≡ length front + (first_lf rest + 1) = omega arith in
+    let lf : first_lf (front ++ rest) ≡ length front + first_lf held = omega (arith, parted, same) in
     record {
-      lf = omega (arith, parted, same);
+      raw = ap (λ n. take n (front ++ rest)) lf ∙ take-append-add front rest (first_lf held)
+          ∙ ap (λ line. front ++ line) (ap (λ n. take n rest) (sym same) ∙ alike.raw);
+      lf = lf;
       size = omega (arith, parted, length-raw_line (front ++ rest), length-raw_line rest, length-append front rest, alike.size);
       behind = ap (λ n. drop (n + 1) (front ++ rest)) parted ∙ ap (λ n. drop n (front ++ rest)) further
           ∙ drop-append-add front rest (first_lf rest + 1) ∙ alike.behind;
@@ -89,7 +97,10 @@ request_of-nothing limits passed within = rw (lt-ltb (passed + 0) limits.total (
 
 -- ---- the answers
 
-module _ (old now : Lines) (cut : Bool) (before after : SourceState) (cuts : HoldsPart old now cut before after) where
+module _ (old now : Lines) (seen : Option LastField) (before after : SourceState) (cuts : HoldsPart old now seen before after) where
+  abbrev cut : Bool
+  cut = is_some seen
+
   -- the same reader by its parts
   abbrev same : Lines
   same = record old { held = now.held; text = []; passed = old.passed + length cuts.front; ended = now.ended }
@@ -117,7 +128,8 @@ module _ (old now : Lines) (cut : Bool) (before after : SourceState) (cuts : Hol
   }
 
   -- the first line that is held becomes this request
-  module _ (request : Request) (is : request ≡ request_behind old.limits cut (length (raw_line now.held))) (some : cut ≡ false → 0 < length now.held) where
+  module _ (request : Request) (is : request ≡ request_behind old.limits cut (length (raw_line now.held))) (some : cut ≡ false → 0 < length now.held)
+      (http : Bool) (tells : http ≡ is_http (cuts.front ++ raw_line now.held)) where
     -- where a part was passed, or a byte is held, the line takes one
     takes_some : 0 < length cuts.front + length now.held
     takes_some = by cut refl where
@@ -125,7 +137,7 @@ module _ (old now : Lines) (cut : Bool) (before after : SourceState) (cuts : Hol
       by true e = omega (arith, cuts.long e)
       by false e = omega (arith, some e)
 
-    counts_past : (r : Request) → request ≡ r → RequestCounts old (past_request same r) (Ok (Some r))
+    counts_past : (r : Request) → request ≡ r → RequestCounts old (past_request same r http) (Ok (Some r))
     counts_past Whole e =
         let uncut = whole_uncut old.limits cut (length (raw_line now.held)) (sym e ∙ is) in
         let none = ap length (cuts.whole uncut) in
@@ -133,16 +145,29 @@ module _ (old now : Lines) (cut : Bool) (before after : SourceState) (cuts : Hol
         let raw = length-raw_line now.held in
         let within = first_lf-le now.held in
         let byte = some uncut in
-        let counts : CountsLine old (past_request same Whole) =
+        let counts : CountsLine old (past_request same Whole http) =
         record { number = refl; more = omega arith; holds_text = omega arith; at_most = omega arith } in
         let asked : Whole ≡ request_behind old.limits cut (length (raw_line now.held)) = sym e ∙ is in
-        record { counts = counts; raw = raw_line now.held; short = whole_short old.limits cut (length (raw_line now.held)) asked; text = refl }
+        record {
+          counts = counts;
+          raw = raw_line now.held;
+          short = whole_short old.limits cut (length (raw_line now.held)) asked;
+          text = refl;
+          http = tells ∙ ap (λ front. is_http (front ++ raw_line now.held)) (cuts.whole uncut);
+        }
     counts_past Long e =
         let asked : Long ≡ request_by old.limits (length cuts.front + first_lf now.held) = sym e ∙ is
         ∙ request_is old.limits cut cuts.front (length (raw_line now.held)) _ (omega (arith, length-raw_line now.held)) cuts.long cuts.whole in
         let raw = length-raw_line now.held in
         let within = first_lf-le now.held in
-        record { text = refl; number = refl; more = grind (arith, nat_tests) }
+        record {
+          text = refl;
+          number = refl;
+          more = grind (arith, nat_tests);
+          raw = cuts.front ++ raw_line now.held;
+          long = let size = length-append cuts.front (raw_line now.held) in grind (arith, nat_tests);
+          http = tells;
+        }
 
     text_past : (r : Request) → request ≡ r → (more : List ℕ) → BeginsAlike now.held more
         → request_text r (raw_line now.held) ≡ request_text r (raw_line (cuts.front ++ (now.held ++ more)))
@@ -161,7 +186,7 @@ module _ (old now : Lines) (cut : Bool) (before after : SourceState) (cuts : Hol
           absurd (omega (arith, whole e, part, line.lf, length-append cuts.front (now.held ++ more), length-append now.held more))
 
     takes_first : old.passed + length cuts.front + first_lf now.held < old.limits.total → (now.ended ≡ false → first_lf now.held < length now.held)
-        → (more : List ℕ) → BeginsAlike now.held more → TakesFirst old (past_request same request) (cuts.front ++ (now.held ++ more)) (Some (after_line now.held ++ more)) request
+        → (more : List ℕ) → BeginsAlike now.held more → TakesFirst old (past_request same request http) (cuts.front ++ (now.held ++ more)) (Some (after_line now.held ++ more)) request
     takes_first within whole more alike =
         let rest = cuts.front ++ (now.held ++ more) in
         let line = begins_behind cuts.front now.held more cuts.no_lf alike in
@@ -174,6 +199,7 @@ module _ (old now : Lines) (cut : Bool) (before after : SourceState) (cuts : Hol
           answer = request_of-within old.limits old.passed rest (omega (arith, within, line.lf, length-raw_line rest)) long
               ∙ ap (λ r. Ok (Some r)) (sym (is ∙ asked));
           text = text_past request refl more alike;
+          http = tells ∙ ap is_http (sym line.raw);
           passed = omega (arith, line.size);
           left = ap Some (sym line.behind);
           lines = lines_of-first rest long;
@@ -182,17 +208,17 @@ module _ (old now : Lines) (cut : Bool) (before after : SourceState) (cuts : Hol
 
     requests_past : old.passed + length cuts.front + first_lf now.held < old.limits.total → (now.ended ≡ false → first_lf now.held < length now.held)
         → ((more : List ℕ) → left_for now after ≡ Some more → BeginsAlike now.held more)
-        → Requests old (past_request same request) before after (Ok (Some request))
+        → Requests old (past_request same request http) before after (Ok (Some request))
     requests_past within whole alike =
-        requests_by (past_request same request) (Ok (Some request)) refl refl (counts_past request refl) (λ e. absurd cc)
+        requests_by (past_request same request http) (Ok (Some request)) refl refl (counts_past request refl) (λ e. absurd cc)
         (omega (arith, length-raw_line now.held, first_lf-le now.held, length-drop {A = ℕ}))
         (λ more left. takes_first within whole more (alike more left))
 
   -- the first line that is held with its LF is taken
-  pub requests_whole : (next : Lines) (request : Request) → TakesEnded now next cut request → Requests old next before after (Ok (Some request))
+  pub requests_whole : (next : Lines) (request : Request) → TakesEnded now next seen request → Requests old next before after (Ok (Some request))
   requests_whole next request taken =
       let step = rw cuts.stays at taken in
-      rw step.taken (requests_past request step.answer (λ e. omega (arith, step.whole)) step.within (λ going. step.whole)
+      rw step.taken (requests_past request step.answer (λ e. omega (arith, step.whole)) next.http (step.http cuts.front cuts.shows) step.within (λ going. step.whole)
       (λ more left. begins_alike now.held more step.whole))
 
   part_left : (more : List ℕ) → PassesPart old same (cuts.front ++ (now.held ++ more)) (Some (now.held ++ more))
@@ -227,12 +253,12 @@ module _ (old now : Lines) (cut : Bool) (before after : SourceState) (cuts : Hol
       rw cuts.stays (requests_by same (Err Read) refl refl fails (λ e. goes_on) refl (λ more left. part_left more))
 
   -- the last line, which has no LF, is taken at the end of input, if there is a byte of it
-  requests_end : (next : Lines) (result : Option Request) → EndsInput now next cut result → first_lf now.held ≡ length now.held
+  requests_end : (next : Lines) (result : Option Request) → EndsInput now next seen result → first_lf now.held ≡ length now.held
       → now.passed + length now.held < now.limits.total → now.ended ≡ true → Requests old next before after (Ok result)
   requests_end next (Some request) last part within end =
       let step = rw cuts.stays at last in
       let total = rw cuts.stays at within in
-      rw step.taken (requests_past request step.answer step.some (omega (arith, total, part)) (λ going. let no : false ≡ true = sym going ∙ end in absurd cc)
+      rw step.taken (requests_past request step.answer step.some next.http (step.http cuts.front cuts.shows) (omega (arith, total, part)) (λ going. let no : false ≡ true = sym going ∙ end in absurd cc)
       (λ more left. let nothing : more ≡ [] = none_left now after more end left in rw nothing (begins_alike-nil now.held)))
   requests_end next None last part within end =
       let step = rw cuts.stays at last in
@@ -256,9 +282,11 @@ past_limit line true front held all e long is = omega (arith, long refl)
 past_limit line false front held all e long is = grind (arith, nat_tests)
 
 -- what is held of a line that is too long is passed
-skips_held : (old now : Lines) (cut long : Bool) (before after : SourceState) → HoldsPart old now cut before after → first_lf now.held ≡ length now.held
-    → long ≡ (cut || nat_lt now.limits.line (length now.held)) → HoldsPart old (without_held now long) long before after
-skips_held old now cut true before after cuts part is =
+skips_held : (old now : Lines) (seen later : Option LastField) (before after : SourceState) → HoldsPart old now seen before after → first_lf now.held ≡ length now.held
+    → is_some later ≡ (is_some seen || nat_lt now.limits.line (length now.held))
+    → ((front : List ℕ) → IsSkipped seen front → IsSkipped later (skipped_with front now.held (is_some later)))
+    → HoldsPart old (without_held now (is_some later)) later before after
+skips_held old now seen (Some last) before after cuts part is shows =
     let size = length-append cuts.front now.held in
     let add : old.passed + length cuts.front + length now.held ≡ old.passed + length (cuts.front ++ now.held) = omega (arith, size) in
     let passed : Lines → Lines = λ lines. record lines { held = []; passed = lines.passed + length now.held } in
@@ -267,8 +295,9 @@ skips_held old now cut true before after cuts part is =
       front = cuts.front ++ now.held;
       stays = ap passed cuts.stays ∙ ap part_of_old add;
       no_lf = first_lf-front cuts.front now.held cuts.no_lf ∙ omega (arith, size, part);
-      long = λ e. past_limit old.limits.line cut (length cuts.front) (length now.held) _ (omega (arith, size)) cuts.long
-          (is ∙ ap (λ lines. cut || nat_lt lines.limits.line (length now.held)) cuts.stays);
+      shows = shows cuts.front cuts.shows;
+      long = λ e. past_limit old.limits.line (is_some seen) (length cuts.front) (length now.held) _ (omega (arith, size)) cuts.long
+          (is ∙ ap (λ lines. is_some seen || nat_lt lines.limits.line (length now.held)) cuts.stays);
       whole = λ e. let no : ⊥ = cc in absurd no;
       rest = rw (append-nil (cuts.front ++ now.held)) cuts.rest;
       loses_none = loses_none-kept old now (without_held now true) before after cuts.loses_none (omega arith);
@@ -276,38 +305,39 @@ skips_held old now cut true before after cuts part is =
       knows_end = cuts.knows_end;
       none_past = omega (arith, cuts.none_past);
     }
-skips_held old now true false before after cuts part is = let no : ⊥ = cc in absurd no
-skips_held old now false false before after cuts part is = cuts
+skips_held old now (Some first) None before after cuts part is shows = let no : ⊥ = cc in absurd no
+skips_held old now None None before after cuts part is shows = cuts
 
-module _ (old now mid skipped next : Lines) (cut long : Bool) (before after later : SourceState) (result : Result Bool Failed)
-    (cuts : HoldsPart old now cut before after) (lacks : LacksEnd now mid) (is : long ≡ (cut || nat_lt mid.limits.line (length mid.held)))
-    (without : skipped ≡ without_held mid long) (stays : next ≡ record skipped { held = next.held; ended = next.ended })
-    (none_past : skipped.passed + length next.held ≤ skipped.limits.total) (fills : Refills skipped next after later result) where
-  cuts_skipped : HoldsPart old skipped long before after
+module _ (old now mid skipped next : Lines) (seen later : Option LastField) (before after behind : SourceState) (result : Result Bool Failed)
+    (cuts : HoldsPart old now seen before after) (lacks : LacksEnd now mid) (is : is_some later ≡ (is_some seen || nat_lt mid.limits.line (length mid.held)))
+    (without : skipped ≡ without_held mid (is_some later)) (shows : (front : List ℕ) → IsSkipped seen front → IsSkipped later (skipped_with front mid.held (is_some later)))
+    (stays : next ≡ record skipped { held = next.held; ended = next.ended })
+    (none_past : skipped.passed + length next.held ≤ skipped.limits.total) (fills : Refills skipped next after behind result) where
+  cuts_skipped : HoldsPart old skipped later before after
   cuts_skipped =
-      let was = subst (λ lines. HoldsPart old lines cut before after) (sym lacks.same) cuts in
-      rw without (skips_held old mid cut long before after was lacks.part is)
+      let was = subst (λ lines. HoldsPart old lines seen before after) (sym lacks.same) cuts in
+      rw without (skips_held old mid seen later before after was lacks.part is shows)
 
   no_lf_held : (l : Bool) → first_lf (without_held mid l).held ≡ length (without_held mid l).held
   no_lf_held true = refl
   no_lf_held false = lacks.part
 
   part_skipped : first_lf skipped.held ≡ length skipped.held
-  part_skipped = rw without (no_lf_held long)
+  part_skipped = rw without (no_lf_held (is_some later))
 
   within_held : (l : Bool) → (without_held mid l).passed + length (without_held mid l).held < (without_held mid l).limits.total
   within_held true = omega (arith, lacks.within)
   within_held false = lacks.within
 
   within_skipped : skipped.passed + length skipped.held < skipped.limits.total
-  within_skipped = rw without (within_held long)
+  within_skipped = rw without (within_held (is_some later))
 
   -- the end of input stays known
   pub skipped_ended : old.ended ≡ true → skipped.ended ≡ true
   skipped_ended = cuts_skipped.stays_ended
 
   -- a read behind the bytes that are held, which have no LF
-  pub cuts_more : HoldsPart old next long before later
+  pub cuts_more : HoldsPart old next later before behind
   cuts_more =
       let was = cuts_skipped in
       let with_held : Lines → Lines = λ lines. record lines { held = next.held; ended = next.ended } in
@@ -317,11 +347,12 @@ module _ (old now mid skipped next : Lines) (cut long : Bool) (before after late
         front = was.front;
         stays = stays ∙ ap with_held was.stays;
         no_lf = was.no_lf;
+        shows = was.shows;
         long = was.long;
         whole = was.whole;
-        rest = rw (← grown) (rest_grown (rest_of old before) (left_for skipped after) (left_for next later) (was.front ++ skipped.held) fills.more was.rest
+        rest = rw (← grown) (rest_grown (rest_of old before) (left_for skipped after) (left_for next behind) (was.front ++ skipped.held) fills.more was.rest
             fills.known);
-        loses_none = loses_none-read old skipped next before after later fills.more was.loses_none fills.taken
+        loses_none = loses_none-read old skipped next before after behind fills.more was.loses_none fills.taken
             (omega (arith, ap (λ lines. lines.passed) stays, ap length fills.grown, length-append skipped.held fills.more));
         stays_ended = λ e. ended_behind skipped next fills.more result fills.answer (was.stays_ended e);
         knows_end = λ knows. fills.knows_end (was.knows_end knows);
@@ -329,19 +360,19 @@ module _ (old now mid skipped next : Lines) (cut long : Bool) (before after late
       }
 
   -- the read found the end of input, and the last line is taken, if there is a byte of it
-  pub requests_last : (last : Lines) (answer : Option Request) → EndsInput next last long answer → result ≡ Ok false
-      → Requests old last before later (Ok answer)
+  pub requests_last : (last : Lines) (answer : Option Request) → EndsInput next last later answer → result ≡ Ok false
+      → Requests old last before behind (Ok answer)
   requests_last last answer ends is_end =
       let end = rw is_end at fills.answer in
       let same = held_same skipped.held next.held fills.more fills.grown end.0 in
-      requests_end old next long before later cuts_more last answer ends (rw same part_skipped) (rw (stays, same) within_skipped) end.1
+      requests_end old next later before behind cuts_more last answer ends (rw same part_skipped) (rw (stays, same) within_skipped) end.1
 
   -- the read failed
-  pub requests_failed : (failed : Failed) → result ≡ Err failed → Requests old next before later (Err Read)
+  pub requests_failed : (failed : Failed) → result ≡ Err failed → Requests old next before behind (Err Read)
   requests_failed failed is_err =
       let failed = rw is_err at fills.answer in
       let same = held_same skipped.held next.held fills.more fills.grown failed.0 in
-      requests_read old next long before later cuts_more (rw same part_skipped) (rw (stays, same) within_skipped) failed.2
+      requests_read old next later before behind cuts_more (rw same part_skipped) (rw (stays, same) within_skipped) failed.2
 
   pub searched_none : length skipped.held ≤ first_lf next.held
   searched_none = rw fills.grown (first_lf-part skipped.held fills.more part_skipped)

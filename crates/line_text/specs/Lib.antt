@@ -1,4 +1,6 @@
 pub mod Fields
+pub mod Http
+pub mod LastFields
 pub mod Lines
 pub mod Marks
 pub mod Numerals

@@ -1,15 +1,18 @@
 ghost use Rattle.std.specs.Prelude.{◌≡◌, ◌↔◌, ◌+◌, ◌-◌, ◌<◌, ◌≤◌, ◌++◌, List, [], length, take, drop, false, true};
 ghost use Rattle.std.specs.Prelude.{Ok, Err, Some, IfOk, OnOk, OnErr, IfSome, IfNone, IsTrue, MatchOption, min};
-ghost use Rattle.std.specs.Prelude.{None, IfErr, ◌||◌, nat_lt};
+ghost use Rattle.std.specs.Prelude.{None, IfErr, ◌||◌, nat_lt, ℕ, is_some};
 ghost use Rattle.std.specs.Result.{result_err};
 ghost use Rattle.route_io.specs.Sources.{Reads, ReadsFrom};
+ghost use Rattle.line_text.specs.Http.{is_http};
+ghost use Rattle.line_text.specs.LastFields.{IsSkipped};
 ghost use Rattle.line_text.specs.Lines.{first_lf, without_cr};
 ghost use Rattle.line_text.specs.Marks.{first_fault, line_fault};
 ghost use Rattle.line_text.specs.Pieces.{Fills, LiesIn, Refills, TakesHeld, is_end, part_of, past_line};
 ghost use Rattle.line_text.specs.Reading.{Advances, InLimits, begun, max_held, max_line, line_failed};
 ghost use Rattle.line_text.specs.Requests.{HoldsLine, Requests, request_text};
-ghost use Rattle.line_text.specs.RequestSteps.{EndsInput, TakesAsked, request_behind, without_held};
+ghost use Rattle.line_text.specs.RequestSteps.{EndsInput, TakesAsked, request_behind, skipped_with, without_held};
 
+use crate::http::{LastField, last_field};
 use crate::{LineFault, LineLimits, Request};
 use memchr::memchr;
 use out_of_memory::OutOfMemory;
@@ -44,6 +47,7 @@ pub struct Lines {
     passed: u64,
     fault: Option<LineFault>,
     ended: bool,
+    http: bool,
 }
 
 impl Model for Lines {
@@ -61,6 +65,7 @@ impl Model for Lines {
       passed = lines.passed;
       fault = lines.fault;
       ended = lines.ended;
+      http = lines.http;
     } };
 
     ghost invariant = { λ lines. (vec_len lines.buffer ≡ max_held)
@@ -85,6 +90,7 @@ impl Lines {
             passed: 0,
             fault: None,
             ended: false,
+            http: false,
         })
     }
 
@@ -170,6 +176,13 @@ impl Lines {
         self.number
     }
 
+    /// Whether the line that `next_request` took last, whole or long, is one of HTTP: its last field begins with `HTTP/`.
+    pub fn is_http(&self) -> bool
+        ensures { result ≡ self.now.http }
+    {
+        self.http
+    }
+
     /// What `next_line` does where no fault is kept.
     fn read_line<S: Source>(&mut self, source: &mut S) -> Result<bool, LineFault>
         ensures at_end { IsTrue self.old.ended → source.new ≡ source.old }
@@ -206,18 +219,18 @@ impl Lines {
     {
         self.drop_text();
         let mut searched = 0;
-        let mut cut = false;
+        let mut skipped = None;
         loop {
-            match self.take_request(searched, cut) {
+            match self.take_request(searched, skipped) {
                 Ok(Some(request)) => return Ok(Some(request)),
                 Ok(None) => {}
                 Err(fault) => return Err(fault),
             }
-            cut = self.skip_long(cut);
+            skipped = self.skip_long(skipped);
             searched = self.held().len();
             match self.refill_within(source) {
                 Ok(true) => {}
-                Ok(false) => return Ok(self.take_last(cut)),
+                Ok(false) => return Ok(self.take_last(skipped)),
                 Err(Failed) => return Err(LineFault::Read),
             }
         }
@@ -269,54 +282,63 @@ impl Lines {
         true
     }
 
-    /// Takes the first line that is held, if its LF is held. Where it was cut, more of it was skipped before. The LF
-    /// isn't among the first `searched` bytes.
-    fn take_request(&mut self, searched: usize, cut: bool) -> Result<Option<Request>, LineFault>
+    /// Takes the first line that is held, if its LF is held. `skipped` is the last field of what was skipped of it before.
+    /// The LF isn't among the first `searched` bytes.
+    fn take_request(
+        &mut self,
+        searched: usize,
+        skipped: Option<LastField>,
+    ) -> Result<Option<Request>, LineFault>
         requires searched { searched ≤ first_lf self.old.held }
         requires no_text { self.old.text ≡ [] }
-        requires counted { cut ≡ true → self.old.number < self.old.passed }
-        ensures { TakesAsked self.old self.new cut result }
+        requires counted { is_some skipped ≡ true → self.old.number < self.old.passed }
+        ensures { TakesAsked self.old self.new skipped result }
     {
         let Some(raw) = find_lf(self.held(), searched) else {
             self.judge_total(self.held().len())?;
             return Ok(None);
         };
         self.judge_total(raw)?;
-        Ok(Some(self.pass_request(raw, raw + 1, cut)))
+        Ok(Some(self.pass_request(raw, raw + 1, skipped)))
     }
 
-    /// Takes the last line, which has no LF, if there is a byte of it. Where it was cut, more of it was skipped before.
-    fn take_last(&mut self, cut: bool) -> Option<Request>
+    /// Takes the last line, which has no LF, if there is a byte of it. `skipped` is the last field of what was skipped
+    /// of it before.
+    fn take_last(&mut self, skipped: Option<LastField>) -> Option<Request>
         requires no_lf { first_lf self.old.held ≡ length self.old.held }
         requires within { self.old.passed + length self.old.held < self.old.limits.total }
         requires no_text { self.old.text ≡ [] }
-        requires counted { cut ≡ true → self.old.number < self.old.passed }
-        ensures { EndsInput self.old self.new cut result }
+        requires counted { is_some skipped ≡ true → self.old.number < self.old.passed }
+        ensures { EndsInput self.old self.new skipped result }
     {
         let size = self.held().len();
-        if size == 0 && !cut {
+        if size == 0 && skipped.is_none() {
             return None;
         }
-        Some(self.pass_request(size, size, cut))
+        Some(self.pass_request(size, size, skipped))
     }
 
     /// Takes the first `size` bytes that are held, of which `raw` stand before the LF, as the next line.
-    fn pass_request(&mut self, raw: usize, size: usize, cut: bool) -> Request
+    fn pass_request(&mut self, raw: usize, size: usize, skipped: Option<LastField>) -> Request
         requires with_lf { raw ≤ size }
         requires held { size ≤ length self.old.held }
         requires total { self.old.passed + size ≤ self.old.limits.total }
         requires no_text { self.old.text ≡ [] }
-        requires some { cut ≡ false → 0 < size }
-        requires counted { cut ≡ true → self.old.number < self.old.passed + size }
-        ensures request { result ≡ request_behind self.old.limits cut raw }
+        requires some { is_some skipped ≡ false → 0 < size }
+        requires counted { is_some skipped ≡ true → self.old.number < self.old.passed + size }
+        ensures request { result ≡ request_behind self.old.limits (is_some skipped) raw }
         ensures passed { self.new ≡ record self.old {
           held = drop size self.old.held;
           text = request_text result (take raw self.old.held);
           number = self.old.number + 1;
           passed = self.old.passed + size;
+          http = self.new.http;
         } }
+        ensures http { (front : List ℕ) → IsSkipped skipped front
+            → self.new.http ≡ is_http (front ++ take raw self.old.held) }
     {
-        if cut || raw as u64 > u64::from(self.limits.line) {
+        self.http = last_field(skipped, &self.held()[..raw]).is_http();
+        if skipped.is_some() || raw as u64 > u64::from(self.limits.line) {
             self.skip(size);
             self.number += 1;
             return Request::Long;
@@ -325,21 +347,26 @@ impl Lines {
         Request::Whole
     }
 
-    /// Skips what is held of a line that is longer than the limit, or was cut before, and answers whether it was.
-    fn skip_long(&mut self, cut: bool) -> bool
+    /// Skips what is held of a line that is longer than the limit, or was cut before, and answers the last field of all that
+    /// was skipped of it.
+    fn skip_long(&mut self, skipped: Option<LastField>) -> Option<LastField>
         requires total { self.old.passed + length self.old.held ≤ self.old.limits.total }
-        requires counted { cut ≡ true → self.old.number < self.old.passed }
-        ensures long { result ≡ (cut || nat_lt self.old.limits.line (length self.old.held)) }
-        ensures skipped { self.new ≡ without_held self.old result }
+        requires counted { is_some skipped ≡ true → self.old.number < self.old.passed }
+        ensures long { is_some result
+            ≡ (is_some skipped || nat_lt self.old.limits.line (length self.old.held)) }
+        ensures skipped { self.new ≡ without_held self.old (is_some result) }
+        ensures shows { (front : List ℕ) → IsSkipped skipped front
+            → IsSkipped result (skipped_with front self.old.held (is_some result)) }
         ensures short { length self.new.held ≤ max_line }
-        ensures counted { result ≡ true → self.new.number < self.new.passed }
+        ensures counted { is_some result ≡ true → self.new.number < self.new.passed }
     {
         let size = self.held().len();
-        let long = cut || size as u64 > u64::from(self.limits.line);
-        if long {
-            self.skip(size);
+        if skipped.is_none() && size as u64 <= u64::from(self.limits.line) {
+            return None;
         }
-        long
+        let last = last_field(skipped, self.held());
+        self.skip(size);
+        Some(last)
     }
 
     /// Passes the first `size` bytes that are held.

@@ -1,4 +1,3 @@
 pub mod GroupLemmas
 pub mod OnwardLemmas
-pub mod OpenLemmas
 pub mod SurvivorLemmas

@@ -17,8 +17,7 @@ use Rattle.arc_graph.proofs.NumbersLemmas.{number_within}
 use Rattle.waiting_item.specs.declared.item.Item.{Item}
 use Rattle.waiting_item.specs.Waiting.{Spot, Waiting, as_waiting, spot_of}
 use Rattle.round_work.specs.Onward.{IsTooWide, onward, reached_from}
-use Rattle.round_work.specs.Pieces.{Appends, AreOpenOf, AreWithRoom, items_of, onward_in, piece_size, AppendsFound, GivesIfRoom, found_in}
-use Rattle.round_work.proofs.OpenLemmas.{open_both}
+use Rattle.round_work.specs.Pieces.{Appends, AreWithRoom, items_of, onward_in, piece_size, AppendsFound, GivesIfRoom, found_in}
 use Rattle.std.proofs.lemmas.Option.{slice_get_read}
 use Rattle.std.specs.Global.{Vec}
 use Rattle.work_claim.specs.Results.{GivesAll}
@@ -94,12 +93,6 @@ module _ (net : Network) (from u : ℕ) (c : List ℕ) where
         exceeds = exceeds;
       }
 
--- the open ones of what two lists give, from those of what each gives
-pub open_on_both : {C : Type 0} (components : C → List ℕ) (net : Network) (Open : Spot → Type 0) (xs ys ks ls : List (Item C))
-    → AreOpenOf components Open (onward_in components net xs) ks → AreOpenOf components Open (onward_in components net ys) ls
-    → AreOpenOf components Open (onward_in components net (xs ++ ys)) (ks ++ ls)
-open_on_both components net Open xs ys ks ls one two = simp (map-append, flat_map-append) (open_both spot_of Open _ _ _ _ one two)
-
 module _ {C : Type 0} (components : C → List ℕ) (bound : ℕ) where
   abbrev Gives : List Waiting → List (Item C) → Type 0
   Gives = AreWithRoom components bound
@@ -151,13 +144,6 @@ module _ {C : Type 0} (components : C → List ℕ) (bound : ℕ) where
     -- what two lists give, from what each gives
     pub on_both : (xs ys ks ls : List (Item C)) → Gives (on xs) ks → Gives (on ys) ls → Gives (on (xs ++ ys)) (ks ++ ls)
     on_both xs ys ks ls one two = simp (map-append, flat_map-append) (gives_both _ _ ks ls one two)
-
-    -- one piece more
-    pub piece_more : (xs : List (Item C)) (n : ℕ) (before now after : List (Item C)) → Appends (Gives (on (take (n * piece_size) xs))) before now
-        → Appends (Gives (on (items_of xs n))) now after → Appends (Gives (on (take ((n + 1) * piece_size) xs))) before after
-    piece_more xs n before now after one two =
-        let further : (n + 1) * piece_size ≡ n * piece_size + piece_size = omega arith in
-        rw (further, take-add) (appends_both (λ ys. Gives (on ys)) on_both _ _ one two)
 
     -- one item more
     pub item_more : (ys : List (Item C)) (i : ℕ) (y : Item C) (before now after : List (Item C)) → i < length ys → y ≡ get_or ys i y

@@ -3,9 +3,8 @@ use Rattle.std.specs.Prelude.{◌≡◌, ◌≢◌, ℕ, ◌*◌, ◌<◌, ◌++
 use Rattle.std.specs.Global.{Vec}
 use Rattle.road_network.specs.Network.{Network, IsNode}
 use Rattle.waiting_item.specs.declared.item.Item.{Item}
-use Rattle.waiting_item.specs.Waiting.{Spot, Waiting, as_waiting, spot_of}
+use Rattle.waiting_item.specs.Waiting.{Waiting, as_waiting}
 use Rattle.round_work.specs.Onward.{HaveRoom, onward_of}
-use Rattle.round_work.specs.Survivors.{KeepsOpen}
 
 -- how many items are a piece; the last piece may have fewer
 abbrev pub piece_size : ℕ
@@ -64,7 +63,3 @@ module _ {C : Type 0} (components : C → List ℕ) where
   pub record AreWithRoom (bound : ℕ) (ws : List Waiting) (items : List (Item C)) : Type 0 where
     pub exact : map (as_waiting components) items ≡ ws
     pub room : HaveRoom bound ws
-
-  -- the items are the open ones of these, in their order
-  abbrev pub AreOpenOf : (Spot → Type 0) → List Waiting → List (Item C) → Type 0
-  AreOpenOf Open ws items = KeepsOpen spot_of Open ws (map (as_waiting components) items)

@@ -1,6 +1,5 @@
 -- What is kept of a round's candidates, of which some are open.
-use Rattle.std.specs.Prelude.{◌≡◌, ◌≢◌, ◌⊎◌, ◌↔◌, List, Bool, AllPairs, Contains, IsTrue}
-use Rattle.std.specs.List.{AllZip, items_where_true}
+use Rattle.std.specs.Prelude.{◌≡◌, ◌≢◌, ◌⊎◌, ◌↔◌, List, AllPairs, Contains}
 use Rattle.cost_vector.specs.Costs.{AtMost, Dominates}
 use Rattle.waiting_queue.specs.Taking.{HasSpot}
 use Rattle.waiting_item.specs.Waiting.{Spot}
@@ -38,9 +37,3 @@ module _ {X : Type 0} (spot : X → Spot) where
     pub among : (x : X) → Contains kept x → Contains candidates x × Open (spot x)
     pub needed : AllPairs AreNeeded kept
     pub rest : (x : X) → Contains candidates x → (¬ Open (spot x)) ⊎ HasBelow kept (spot x)
-
-  -- the open candidates are kept, in their order
-  pub record KeepsOpen (Open : Spot → Type 0) (candidates kept : List X) : Type 0 where
-    pub marks : List Bool
-    pub tell : AllZip (λ x mark. IsTrue mark ↔ Open (spot x)) candidates marks
-    pub exact : kept ≡ items_where_true marks candidates

@@ -18,11 +18,7 @@ pub(crate) fn sort_by_node<C: Send, R: Threads + Sync, G>(
     ensures permutation { IsPermutation candidates.old candidates.new }
     ensures ascending { AscendByNode candidates.new }
 {
-    if workers.count() == 1 {
-        candidates.sort_unstable_by_key(|item| item.node.0);
-    } else {
-        par_sort_unstable_by_key(workers.rt(), candidates, |item| item.node.0);
-    }
+    par_sort_unstable_by_key(workers.rt(), candidates, |item| item.node.0);
 }
 
 /// The groups of sorted candidates.

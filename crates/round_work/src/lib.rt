@@ -4,14 +4,11 @@
 
 mod fault;
 mod groups;
-mod marks;
 mod merging;
 mod pieces;
 mod relaxing;
 mod runs;
 
 pub use fault::RelaxFault;
-pub use marks::Marks;
 pub use merging::merge;
-pub use pieces::PIECE_SIZE;
-pub use relaxing::{relax, relax_open};
+pub use relaxing::relax;

@@ -2,7 +2,7 @@ ghost use Rattle.std.specs.Prelude.{◌≡◌, ◌++◌, map, IfOk};
 ghost use Rattle.waiting_item.specs.Waiting.{as_waiting, spot_in, spot_of};
 ghost use Rattle.round_work.specs.Groups.{AscendByNode};
 ghost use Rattle.round_work.specs.Pieces.{all_of};
-ghost use Rattle.round_work.specs.Survivors.{KeepsNeeded, KeepsOpen, KeepsSurvivors};
+ghost use Rattle.round_work.specs.Survivors.{KeepsNeeded, KeepsSurvivors};
 
 use crate::groups::{list_groups, sort_by_node};
 use crate::runs::{GroupRuns, run_size};
@@ -84,25 +84,4 @@ fn append_all<C: Copy>(lists: &[Vec<Item<C>>], all: &mut Vec<Item<C>>) -> Result
         all.extend_from_slice(list)?;
     }
     Ok(())
-}
-
-/// Keeps the open candidates, in their order: less than merging them, and all that a search on one thread needs.
-#[tactic(auto, using(crate::proofs::OpenLemmas::sifting_none, crate::proofs::OpenLemmas::sifted))]
-pub(crate) fn leave_out_closed<const D: usize, C: StoredCost<D>, K: Look<D, C>>(
-    look: &K,
-    candidates: &mut Vec<Item<C>>,
-)
-    ensures { KeepsOpen spot_of (K.IsOpen look.now)
-        (map (as_waiting C.components) candidates.old.items)
-        (map (as_waiting C.components) candidates.new.items) }
-{
-    let mut kept = 0;
-    for i in 0..candidates.len() {
-        let item = candidates[i];
-        if look.is_open(&item) {
-            candidates[kept] = item;
-            kept += 1;
-        }
-    }
-    candidates.truncate(kept);
 }

@@ -6,13 +6,11 @@ ghost use Rattle.round_work.specs.Pieces.{Appends, AreWithRoom, CanDo, items_of,
 ghost use Rattle.round_work.specs.declared.fault.RelaxFault.TheVariants as fault;
 
 use crate::RelaxFault;
-use crate::merging::leave_out_closed;
 use arc_graph::Network;
 use out_of_memory::OutOfMemory;
 use std::alloc::Global;
 use stored_cost::StoredCost;
 use waiting_item::Item;
-use waiting_queue::Look;
 use work_claim::Job;
 
 /// How many taken items are a piece of work; the last piece may have fewer.
@@ -82,40 +80,6 @@ impl<'g, const D: usize, C: StoredCost<D>> TakenItems<'g, D, C> {
             relax_into(self.network, item, candidates)?;
         }
         Ok(())
-    }
-}
-
-/// The taken items of a round, of whose candidates the open ones are wanted, over fronts that stand still.
-#[derive(Drop)]
-pub(crate) struct OpenPieces<'g, const D: usize, C: StoredCost<D>, K: Look<D, C>> {
-    pub items: &'g TakenItems<'g, D, C>,
-    pub look: &'g K,
-}
-
-impl<'g, const D: usize, C: StoredCost<D> + Send + Sync, K: Look<D, C> + Sync> Job
-    for OpenPieces<'g, D, C, K>
-where
-    C::Part: Send + Sync,
-{
-    ghost use Rattle.round_work.specs.Onward.{IsTooWide};
-    ghost use Rattle.round_work.specs.Pieces.{AreOpenOf, CanDo, GivesIfRoom, items_of, onward_in};
-
-    type Out = Option<Vec<Item<C>>>;
-
-    ghost accepts = { λ job piece. CanDo D job.items.now.network.now job.items.now.taken.now piece };
-
-    ghost gives = { λ job piece out. GivesIfRoom
-        (IsTooWide C.Part.bound
-        (onward_in C.components job.items.now.network.now job.items.now.taken.now))
-        (AreOpenOf C.components (K.IsOpen job.look.now) (onward_in C.components
-        job.items.now.network.now (items_of job.items.now.taken.now piece))) out };
-
-    fn run(&self, piece: usize) -> Result<Option<Vec<Item<C>>>, OutOfMemory> {
-        let Some(mut candidates) = self.items.run(piece)? else {
-            return Ok(None);
-        };
-        leave_out_closed(self.look, &mut candidates);
-        Ok(Some(candidates))
     }
 }
 

@@ -12,6 +12,7 @@ use Rattle.epoch_store.specs.Origin.{Origin, IsPublishedIn}
 use Rattle.link_doors.specs.Doors.{DoorState}
 use Rattle.link_doors.specs.Links.{LinkState}
 use Rattle.out_of_memory.specs.declared.OutOfMemory.{OutOfMemory}
+use Rattle.session_core.specs.declared.context.LinkPolicy.{LinkPolicy}
 use Rattle.session_core.specs.declared.end.SessionEnd.{SessionEnd}
 use Rattle.session_core.specs.Sessions.{Scene, Session}
 use Rattle.route_lanes.specs.declared.operator_lane.OperatorLane.{OperatorLane}
@@ -63,9 +64,9 @@ module _ {P : Type 0} (Visits : P → LinkState → LinkState → SessionEnd →
   lane_tally : tally ≡ tally_of lane_of
   lane_tally = ap (λ (w : Option OutOfMemory). record { failed = tally.failed; want = w }) is.wants
 
-module _ {T D : Type 0} (show : D → DoorState) (scene : Scene) (bytes : ℕ) (whole : History) (allowed : IsPublishedIn scene.origin whole) where
+module _ {T D : Type 0} (show : D → DoorState) (scene : Scene) (policy : LinkPolicy) (whole : History) (allowed : IsPublishedIn scene.origin whole) where
   abbrev serves : Service (SessionLane T DoorTally) D → Type 0
-  serves s = SessionServesDoor show scene bytes s.party s.link s.party_after s.link_after
+  serves s = SessionServesDoor show scene policy s.party s.link s.party_after s.link_after
 
   abbrev seen : SessionLane T DoorTally → Type 0
   seen lane = IsPrefix lane.session.seen whole
@@ -78,13 +79,13 @@ module _ {T D : Type 0} (show : D → DoorState) (scene : Scene) (bytes : ℕ) (
     tallies_are : map (λ s. s.party_after.end) services ≡ map tally_of lanes
     in_order : All IsDoorLane lanes
     finished : All IsFinished lanes
-    over : All seen (map (λ s. s.party_after) services) → All (IsSessionLane scene bytes whole) lanes
+    over : All seen (map (λ s. s.party_after) services) → All (IsSessionLane scene policy whole) lanes
 
   lane_over : (lane : SessionLane T DoorTally) (before after : DoorState)
-      (is : ServesDoor (SessionVisit scene bytes) (record { seen = []; named = [] }) lane.session before after lane.end) → seen lane
-      → IsSessionLane scene bytes whole (lane_of (SessionVisit scene bytes) (record { seen = []; named = [] }) lane.session before after lane.end is)
+      (is : ServesDoor (SessionVisit scene policy) (record { seen = []; named = [] }) lane.session before after lane.end) → seen lane
+      → IsSessionLane scene policy whole (lane_of (SessionVisit scene policy) (record { seen = []; named = [] }) lane.session before after lane.end is)
   lane_over lane before after is begins =
-      let over = served_over scene bytes whole allowed is.led begins in
+      let over = served_over scene policy whole allowed is.led begins in
       record { links = over.links; visits_are = over.visits_are; each = over.each; ascending = over.ascending }
 
   lanes_of : (services : List (Service (SessionLane T DoorTally) D)) → All serves services → LanesOf services
@@ -95,12 +96,12 @@ module _ {T D : Type 0} (show : D → DoorState) (scene : Scene) (bytes : ℕ) (
     tallies_are = refl;
     in_order = All-nil IsDoorLane;
     finished = All-nil IsFinished;
-    over = λ begin. All-nil (IsSessionLane scene bytes whole);
+    over = λ begin. All-nil (IsSessionLane scene policy whole);
   }
   lanes_of (s ∷ services) served =
       let more = lanes_of services (All-tail serves s services served) in
       let is = All-head serves s services served in
-      let visits : Session → LinkState → LinkState → SessionEnd → Session → Type 0 = SessionVisit scene bytes in
+      let visits : Session → LinkState → LinkState → SessionEnd → Session → Type 0 = SessionVisit scene policy in
       let new : Session = record { seen = []; named = [] } in
       let lane = lane_of visits new s.party_after.session (show s.link) (show s.link_after) s.party_after.end is in
       let after = map (λ (x : Service (SessionLane T DoorTally) D). x.party_after) services in
@@ -112,7 +113,7 @@ module _ {T D : Type 0} (show : D → DoorState) (scene : Scene) (bytes : ℕ) (
         in_order = All-cons IsDoorLane lane more.lanes
             (lane_in_order visits new s.party_after.session (show s.link) (show s.link_after) s.party_after.end is) more.in_order;
         finished = All-cons IsFinished lane more.lanes is.ended more.finished;
-        over = λ begin. All-cons (IsSessionLane scene bytes whole) lane more.lanes
+        over = λ begin. All-cons (IsSessionLane scene policy whole) lane more.lanes
             (lane_over s.party_after (show s.link) (show s.link_after) is (All-head seen s.party_after after begin))
             (more.over (All-tail seen s.party_after after begin));
       }
@@ -128,21 +129,21 @@ finishes_as : {Q : Type 0} (r : Result Served OutOfMemory) (A B : Served → Typ
 finishes_as (Ok served) A B says a q = says served a q
 finishes_as (Err fault) A B says a q = a
 
-module _ (graph : Graph) (o : Origin) (weights : Weights) (first budget bytes : ℕ) (first_is : o.first ≡ first) (base_is : o.base ≡ weights) where
+module _ (graph : Graph) (o : Origin) (weights : Weights) (first budget : ℕ) (policy : LinkPolicy) (first_is : o.first ≡ first) (base_is : o.base ≡ weights) where
   -- all doors were served
   pub serves_lanes : {T D : Type 0} (show : D → DoorState) (one one' : OperatorLane T DoorTally) (lanes lanes' : List (SessionLane T DoorTally))
       (doors doors' : List D) (result : Result Served OutOfMemory)
-      → FirstAndAllServe (OperatorServesDoor show o bytes)
-      (SessionServesDoor show (record { graph = graph; origin = o; budget = budget }) bytes) one lanes doors one' lanes' doors'
+      → FirstAndAllServe (OperatorServesDoor show o policy)
+      (SessionServesDoor show (record { graph = graph; origin = o; budget = budget }) policy) one lanes doors one' lanes' doors'
       → IfOk result (λ served. served ≡ sum_of (one'.end ∷ map (λ lane. lane.end) lanes'))
       → OnOk result (All (λ lane. IsPrefix lane.session.seen (whole_of one'.store)) lanes')
-      → ServesLanes graph weights first budget bytes (map show doors) (map show doors') result
+      → ServesLanes graph weights first budget policy (map show doors) (map show doors') result
   serves_lanes {T} {D} show one one' lanes lanes' doors doors' result is summed begins =
       let scene : Scene = record { graph = graph; origin = o; budget = budget } in
       let operator = is.served_first in
       let whole = closed_history operator.left in
       let services = is.served.services in
-      let rest = lanes_of show scene bytes whole operator.published services is.served.each in
+      let rest = lanes_of show scene policy whole operator.published services is.served.each in
       let lead = lane_of _ _ operator.left (show is.first) (show is.first_after) one'.end operator.serves in
       let closed : whole_of one'.store ≡ whole = ap whole_of operator.closed in
       let tallies : map (λ (lane : SessionLane T DoorTally). lane.end) lanes' ≡ map tally_of rest.lanes =
@@ -165,7 +166,7 @@ module _ (graph : Graph) (o : Origin) (weights : Weights) (first budget bytes : 
             (lane_in_order _ _ operator.left (show is.first) (show is.first_after) one'.end operator.serves) rest.in_order;
         left = operator.left;
         operator_lane = operator.serves.led;
-        finishes = finishes_as result _ (FinishesLanes scene bytes whole lead rest.lanes)
+        finishes = finishes_as result _ (FinishesLanes scene policy whole lead rest.lanes)
             (λ served sum begin. let same = sum ∙ total in record {
               finished = All-cons IsFinished lead rest.lanes operator.serves.ended rest.finished;
               failed = ap (λ (s : Served). s.failed) same;
@@ -195,7 +196,7 @@ module _ (graph : Graph) (o : Origin) (weights : Weights) (first budget bytes : 
 
   -- memory ran out before any was asked
   pub serves_none : (doors : List DoorState) (fault : OutOfMemory) → 1 ≤ length doors
-      → ServesLanes graph weights first budget bytes doors doors (Err fault)
+      → ServesLanes graph weights first budget policy doors doors (Err fault)
   serves_none [] fault some = absurd (omega (arith, some))
   serves_none (door ∷ doors) fault some = record {
     origin = o;

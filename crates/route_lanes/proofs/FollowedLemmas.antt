@@ -16,6 +16,7 @@ use Rattle.route_io.specs.Sources.{SourceState}
 use Rattle.link_doors.specs.Links.{LinkState}
 use Rattle.route_lanes.specs.Followed.{BringFeedsOf, BringsFeed, CameWhole, ReportsSets}
 use Rattle.route_lanes.specs.Following.{FeedsLead, FollowReport, IsTakenFeed, RunsFollow, TakenFeed, max_feed, then, untaken}
+use Rattle.session_core.specs.declared.context.LinkPolicy.{LinkPolicy}
 
 module _ (g : Graph) (o : Origin) (leader : History) (graph : IsGraph g) (published : IsPublished (length g.ends) g.criteria o.first leader) where
   abbrev head : FeedHead
@@ -36,9 +37,9 @@ module _ (g : Graph) (o : Origin) (leader : History) (graph : IsGraph g) (publis
 
   -- what was taken of a source that tells its bytes
   taken_of : (mid new : History) (feed : TakenFeed) (bytes : List ℕ) → feed.before.left ≡ Some bytes → IsTakenFeed g o mid new feed
-      → TakesFeed head max_feed mid bytes feed.report.end new
+      → TakesFeed head max_feed mid bytes feed.after.left feed.report.end new
   taken_of mid new feed bytes tells taken =
-      subst (λ (left : Option (List ℕ)). IfSome left (λ bytes. TakesFeed head max_feed mid bytes feed.report.end new)) tells taken.takes
+      subst (λ (left : Option (List ℕ)). IfSome left (λ bytes. TakesFeed head max_feed mid bytes feed.after.left feed.report.end new)) tells taken.takes
 
   -- the follower keeps to its leader
   pub lead_keeps : {feeds : List TakenFeed} {last : History} → AllBring feeds → FeedsLead g o feeds last → IsPrefix last leader
@@ -46,7 +47,7 @@ module _ (g : Graph) (o : Origin) (leader : History) (graph : IsGraph g) (publis
   lead_keeps bring (then {feeds} {mid} {last} feed lead taken) =
       let brings = last_brings feeds feed bring in
       let from = brings.comes in
-      feed_keeps head leader is published from.from from.to from.counted from.ordered from.there max_feed mid last brings.bytes feed.report.end from.front
+      feed_keeps head leader is published from.from from.to from.counted from.ordered from.there max_feed mid last brings.bytes feed.after.left feed.report.end from.front
       (lead_keeps (others_bring feeds feed bring) lead) (taken_of mid last feed brings.bytes brings.tells taken)
 
   -- a feed that came whole brought it up
@@ -54,7 +55,7 @@ module _ (g : Graph) (o : Origin) (leader : History) (graph : IsGraph g) (publis
       → ReportsSets o.first j feed.report
   brought_up j feed mid new begins taken whole =
       let text = feed_text head leader 1 j in
-      let d : Delivery = record { bytes = text; total = max_feed; end = feed.report.end } in
+      let d : Delivery = record { bytes = text; after = feed.after.left; total = max_feed; end = feed.report.end } in
       let comes : ComesWhole head leader j d =
       record { there = whole.there; whole = refl; remembered = whole.remembered; read = whole.read; short = whole.short } in
       let caught = feed_arrives head leader is published j d mid new comes begins (taken_of mid new feed text whole.whole taken) in
@@ -72,8 +73,8 @@ module _ (g : Graph) (o : Origin) (leader : History) (graph : IsGraph g) (publis
             (brought_up j one mid last (lead_keeps (others_bring feeds one bring) lead) taken (subst (CameWhole head leader j) same whole))
       ]
 
-module _ (g : Graph) (weights : Weights) (first budget bytes : ℕ) (feeds feeds_after : List SourceState) (before after : List LinkState)
-    (report : FollowReport) (leader : History) (run : RunsFollow g weights first budget bytes feeds feeds_after before after report)
+module _ (g : Graph) (weights : Weights) (first budget : ℕ) (policy : LinkPolicy) (feeds feeds_after : List SourceState) (before after : List LinkState)
+    (report : FollowReport) (leader : History) (run : RunsFollow g weights first budget policy feeds feeds_after before after report)
     (bring : BringFeedsOf g first leader feeds) where
   abbrev taken : List TakenFeed
   taken = run.feeds_taken.feeds

@@ -8,6 +8,7 @@ use Rattle.epoch_store.specs.Origin.{Origin, IsPublishedIn, last_number}
 use Rattle.epoch_store.proofs.OperatorLemmas.{closed_last}
 use Rattle.epoch_store.proofs.PrefixLemmas.{prefix_self}
 use Rattle.link_doors.specs.Links.{LinkState}
+use Rattle.session_core.specs.declared.context.LinkPolicy.{LinkPolicy}
 use Rattle.session_core.specs.declared.end.SessionEnd.{SessionEnd}
 use Rattle.session_core.specs.Links.{Serves}
 use Rattle.session_core.specs.Sessions.{IsSessionBye, Scene, SessionGoes}
@@ -19,19 +20,20 @@ use Rattle.route_lanes.specs.declared.operator_lane.OperatorLane.{OperatorLane}
 use Rattle.route_lanes.specs.declared.session_lane.SessionLane.{SessionLane}
 
 -- what a session served over what it had seen, it served over the whole history
-serves_whole : {T L : Type 0} (show : L → LinkState) (scene : Scene) (bytes : ℕ) (whole : History) (s : Service (SessionLane T SessionEnd) L)
-    → SessionServes show scene bytes s.party s.link s.party_after s.link_after → IsPrefix s.party_after.session.seen whole
+serves_whole : {T L : Type 0} (show : L → LinkState) (scene : Scene) (policy : LinkPolicy) (whole : History) (s : Service (SessionLane T SessionEnd) L)
+    → SessionServes show scene policy s.party s.link s.party_after s.link_after → IsPrefix s.party_after.session.seen whole
     → IsPublishedIn scene.origin whole
-    → Serves (SessionGoes scene) (IsSessionBye scene) bytes (record { seen = []; named = [] })
+    → Serves (SessionGoes scene) (IsSessionBye scene) policy (record { seen = []; named = [] })
     (record { seen = whole; named = s.party_after.session.named })
     (show s.link).from (show s.link_after).from (show s.link).to (show s.link_after).to s.party_after.end
-serves_whole show scene bytes whole s is begins allowed = record {
+serves_whole show scene policy whole s is begins allowed = record {
   exchanges = is.exchanges;
   runs = record {
     run = run_stays scene [] [] s.party_after.session.seen whole is.exchanges is.runs.run (prefix_self []) begins allowed.history;
     named = is.runs.named;
   };
   each = is.each;
+  no_http = is.no_http;
   lines = is.lines;
   wanted = is.wanted;
   wants = is.wants;
@@ -45,20 +47,20 @@ abbrev pub lane_of : {T L : Type 0} → (L → LinkState) → ℕ → Service (S
 lane_of show last s = record { before = show s.link; after = show s.link_after; report = report_of last s.party_after }
 
 -- the lanes of sessions
-pub session_lanes : {T L : Type 0} (show : L → LinkState) (scene : Scene) (bytes : ℕ) (whole : History) → IsPublishedIn scene.origin whole
+pub session_lanes : {T L : Type 0} (show : L → LinkState) (scene : Scene) (policy : LinkPolicy) (whole : History) → IsPublishedIn scene.origin whole
     → (services : List (Service (SessionLane T SessionEnd) L))
-    → All (λ s. SessionServes show scene bytes s.party s.link s.party_after s.link_after) services
+    → All (λ s. SessionServes show scene policy s.party s.link s.party_after s.link_after) services
     → All (λ lane. IsPrefix lane.session.seen whole) (map (λ s. s.party_after) services)
-    → All (IsSessionLane scene bytes whole) (map (lane_of show (last_number scene.origin whole)) services)
-session_lanes show scene bytes whole allowed [] served begins = All-nil (IsSessionLane scene bytes whole)
-session_lanes {T} {L} show scene bytes whole allowed (s ∷ services) served begins =
-    let serves : Service (SessionLane T SessionEnd) L → Type 0 = λ x. SessionServes show scene bytes x.party x.link x.party_after x.link_after in
+    → All (IsSessionLane scene policy whole) (map (lane_of show (last_number scene.origin whole)) services)
+session_lanes show scene policy whole allowed [] served begins = All-nil (IsSessionLane scene policy whole)
+session_lanes {T} {L} show scene policy whole allowed (s ∷ services) served begins =
+    let serves : Service (SessionLane T SessionEnd) L → Type 0 = λ x. SessionServes show scene policy x.party x.link x.party_after x.link_after in
     let seen : SessionLane T SessionEnd → Type 0 = λ lane. IsPrefix lane.session.seen whole in
     let after = map (λ (x : Service (SessionLane T SessionEnd) L). x.party_after) services in
-    let one = serves_whole show scene bytes whole s (All-head serves s services served) (All-head seen s.party_after after begins) allowed in
+    let one = serves_whole show scene policy whole s (All-head serves s services served) (All-head seen s.party_after after begins) allowed in
     let lane = lane_of show (last_number scene.origin whole) in
-    All-cons (IsSessionLane scene bytes whole) (lane s) (map lane services) (record { serves = one; last = refl })
-    (session_lanes show scene bytes whole allowed services (All-tail serves s services served) (All-tail seen s.party_after after begins))
+    All-cons (IsSessionLane scene policy whole) (lane s) (map lane services) (record { serves = one; last = refl })
+    (session_lanes show scene policy whole allowed services (All-tail serves s services served) (All-tail seen s.party_after after begins))
 
 -- two ways of mapping a list twice, which agree on each element
 pub maps_agree : {A B C D : Type 0} (f : B → D) (g : A → B) (h : C → D) (k : A → C) → ((x : A) → f (g x) ≡ h (k x)) → (xs : List A)
@@ -67,15 +69,15 @@ maps_agree f g h k same [] = refl
 maps_agree f g h k same (x ∷ xs) = ap₂ ◌∷◌ (same x) (maps_agree f g h k same xs)
 
 -- all lanes, where the operator left this
-module _ {T L : Type 0} (show : L → LinkState) (graph : Graph) (o : Origin) (budget bytes : ℕ) (one one' : OperatorLane T SessionEnd)
+module _ {T L : Type 0} (show : L → LinkState) (graph : Graph) (o : Origin) (budget : ℕ) (policy : LinkPolicy) (one one' : OperatorLane T SessionEnd)
     (lanes lanes' : List (SessionLane T SessionEnd)) (links links' : List L) (reports : List LaneReport) where
   pub runs_lanes : (weights : Weights) (first : ℕ) → o.first ≡ first → o.base ≡ weights
-      → FirstAndAllServe (OperatorServes show o bytes) (SessionServes show (record { graph = graph; origin = o; budget = budget }) bytes)
+      → FirstAndAllServe (OperatorServes show o policy) (SessionServes show (record { graph = graph; origin = o; budget = budget }) policy)
       one lanes links one' lanes' links'
       → reports ≡ record { end = one'.end; last = last_number o (whole_of one'.store); numbers = [] }
       ∷ map (report_of (last_number o (whole_of one'.store))) lanes'
       → All (λ lane. IsPrefix lane.session.seen (whole_of one'.store)) lanes'
-      → RunsLanes graph weights first budget bytes (map show links) (map show links') reports
+      → RunsLanes graph weights first budget policy (map show links) (map show links') reports
   runs_lanes weights first first_is base_is is exchanges begins =
       let operator = is.served_first in
       let left = operator.left in
@@ -103,6 +105,6 @@ module _ {T L : Type 0} (show : L → LinkState) (graph : Graph) (o : Origin) (b
             (ap (map (report_of last)) is.served.parties_became ∙ maps_agree (report_of last) (λ s. s.party_after) (λ l. l.report) lane (λ s. refl) services);
         left = left;
         operator_lane = record { serves = operator.serves; last = closed_last o left.published; unnamed = refl };
-        session_lanes = session_lanes show scene bytes whole operator.published services is.served.each
+        session_lanes = session_lanes show scene policy whole operator.published services is.served.each
             (subst (λ (xs : List (SessionLane T SessionEnd)). All (λ (x : SessionLane T SessionEnd). IsPrefix x.session.seen whole) xs) is.served.parties_became seen);
       }

@@ -12,6 +12,7 @@ use Rattle.list_laws.proofs.Pairs.{pairs_none}
 use Rattle.arc_graph.specs.History.{History}
 use Rattle.epoch_store.specs.Origin.{IsPublishedIn, last_number}
 use Rattle.epoch_store.proofs.PrefixLemmas.{prefix_trans}
+use Rattle.session_core.specs.declared.context.LinkPolicy.{LinkPolicy}
 use Rattle.session_core.specs.Exchanges.{numbers_named}
 use Rattle.session_core.specs.Sessions.{Scene, Session}
 use Rattle.session_core.proofs.StayLemmas.{last_grows, run_stays}
@@ -19,17 +20,17 @@ use Rattle.route_lanes.specs.Serving.{IsServedOver, SessionLink, SessionVisit}
 use Rattle.route_lanes.specs.Visits.{Led, Visit, then, unvisited}
 
 -- the links of a session's lane over a history that goes on from what the session saw in the end
-pub record ServedOver (scene : Scene) (bytes : ℕ) (whole : History) (last : Session) (visits : List Visit) : Type 0 where
+pub record ServedOver (scene : Scene) (policy : LinkPolicy) (whole : History) (last : Session) (visits : List Visit) : Type 0 where
   pub links : List SessionLink
   pub visits_are : visits ≡ map (λ link. link.visit) links
-  pub each : All (IsServedOver scene bytes whole) links
+  pub each : All (IsServedOver scene policy whole) links
   pub ascending : AllPairs ◌≤◌ (flat_map (λ link. link.named) links)
   pub below : All (λ n. n ≤ last_number scene.origin last.seen) (flat_map (λ link. link.named) links)
 
-module _ (scene : Scene) (bytes : ℕ) (whole : History) (allowed : IsPublishedIn scene.origin whole) where
+module _ (scene : Scene) (policy : LinkPolicy) (whole : History) (allowed : IsPublishedIn scene.origin whole) where
   -- what a session served over what it had seen, it served over the whole history
-  one_over : (old new : Session) (visit : Visit) (is : SessionVisit scene bytes old visit.before visit.after visit.end new)
-      → IsPrefix new.seen whole → IsServedOver scene bytes whole (record { visit = visit; named = numbers_named is.exchanges })
+  one_over : (old new : Session) (visit : Visit) (is : SessionVisit scene policy old visit.before visit.after visit.end new)
+      → IsPrefix new.seen whole → IsServedOver scene policy whole (record { visit = visit; named = numbers_named is.exchanges })
   one_over old new visit is begins = record {
     exchanges = is.exchanges;
     runs = record {
@@ -37,6 +38,7 @@ module _ (scene : Scene) (bytes : ℕ) (whole : History) (allowed : IsPublishedI
       named = refl;
     };
     each = is.each;
+    no_http = is.no_http;
     lines = is.lines;
     wanted = is.wanted;
     wants = is.wants;
@@ -46,9 +48,9 @@ module _ (scene : Scene) (bytes : ℕ) (whole : History) (allowed : IsPublishedI
   }
 
   -- one link more
-  over_more : (visits : List Visit) (old new : Session) (visit : Visit) → ServedOver scene bytes whole old visits
-      → SessionVisit scene bytes old visit.before visit.after visit.end new → IsPrefix new.seen whole
-      → ServedOver scene bytes whole new (visits ++ visit ∷ [])
+  over_more : (visits : List Visit) (old new : Session) (visit : Visit) → ServedOver scene policy whole old visits
+      → SessionVisit scene policy old visit.before visit.after visit.end new → IsPrefix new.seen whole
+      → ServedOver scene policy whole new (visits ++ visit ∷ [])
   over_more visits old new visit so_far is begins =
       let named : SessionLink → List ℕ = λ link. link.named in
       let link : SessionLink = record { visit = visit; named = numbers_named is.exchanges } in
@@ -67,19 +69,19 @@ module _ (scene : Scene) (bytes : ℕ) (whole : History) (allowed : IsPublishedI
       record {
         links = so_far.links ++ link ∷ [];
         visits_are = ap (λ (vs : List Visit). vs ++ visit ∷ []) so_far.visits_are ∙ sym (map-append (λ (l : SessionLink). l.visit) so_far.links (link ∷ []));
-        each = All-append (IsServedOver scene bytes whole) so_far.links (link ∷ []) so_far.each
-            (All-cons (IsServedOver scene bytes whole) link [] (one_over old new visit is begins) (All-nil (IsServedOver scene bytes whole)));
+        each = All-append (IsServedOver scene policy whole) so_far.links (link ∷ []) so_far.each
+            (All-cons (IsServedOver scene policy whole) link [] (one_over old new visit is begins) (All-nil (IsServedOver scene policy whole)));
         ascending = subst (AllPairs ◌≤◌) (sym both) pairs;
         below = subst (All newer) (sym both) under;
       }
 
   -- all links of a session's lane
-  pub served_over : {visits : List Visit} {last : Session} → Led (SessionVisit scene bytes) (record { seen = []; named = [] }) visits last
-      → IsPrefix last.seen whole → ServedOver scene bytes whole last visits
+  pub served_over : {visits : List Visit} {last : Session} → Led (SessionVisit scene policy) (record { seen = []; named = [] }) visits last
+      → IsPrefix last.seen whole → ServedOver scene policy whole last visits
   served_over unvisited begins = record {
     links = [];
     visits_are = refl;
-    each = All-nil (IsServedOver scene bytes whole);
+    each = All-nil (IsServedOver scene policy whole);
     ascending = pairs_none ◌≤◌;
     below = All-nil (λ n. n ≤ last_number scene.origin []);
   }

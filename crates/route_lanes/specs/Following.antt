@@ -12,6 +12,7 @@ use Rattle.epoch_follow.specs.Text.{head_of}
 use Rattle.link_doors.specs.Links.{LinkState}
 use Rattle.route_lanes.specs.Lanes.{IsSessionLane, Lane, LaneReport}
 use Rattle.route_lanes.specs.declared.feed_lane.FeedReport.{FeedReport}
+use Rattle.session_core.specs.declared.context.LinkPolicy.{LinkPolicy}
 
 -- the most bytes of a feed
 abbrev pub max_feed : ℕ
@@ -28,10 +29,11 @@ pub record TakenFeed : Type 0 where
   pub after : SourceState
   pub report : FeedReport
 
--- The feed led a follower's history from there to here, by its run where its source tells the bytes, and its number is that of
--- the last epoch then. The source's failures alone make a failed read.
+-- The feed led a follower's history from there to here, by its run where its source tells the bytes, of which none is taken behind
+-- its end. Its number is that of the last epoch then. The source's failures alone make a failed read.
 pub record IsTakenFeed (graph : Graph) (o : Origin) (mid last : History) (feed : TakenFeed) : Type 0 where
-  pub takes : IfSome feed.before.left (λ bytes. TakesFeed (head_of graph o.first) max_feed mid bytes feed.report.end last)
+  pub takes : IfSome feed.before.left (λ bytes. TakesFeed (head_of graph o.first) max_feed mid bytes feed.after.left
+      feed.report.end last)
   pub begins : IsPrefix mid last
   pub reads : ReadsFrom feed.before feed.after (is_read feed.report.end)
   pub number : feed.report.number ≡ last_number o last
@@ -55,7 +57,7 @@ pub record TakesFeeds (graph : Graph) (o : Origin) (before after : List SourceSt
 
 -- Over one store, which began with this number and these weights, feeds were taken beside lanes of sessions. The history of
 -- all sessions is what the feeds led to, closed in the end.
-pub record RunsFollow (graph : Graph) (weights : Weights) (first budget bytes : ℕ) (feeds feeds_after : List SourceState)
+pub record RunsFollow (graph : Graph) (weights : Weights) (first budget : ℕ) (policy : LinkPolicy) (feeds feeds_after : List SourceState)
     (before after : List LinkState) (report : FollowReport) : Type 0 where
   pub origin : Origin
   pub first_is : origin.first ≡ first
@@ -66,5 +68,5 @@ pub record RunsFollow (graph : Graph) (weights : Weights) (first budget bytes : 
   pub links_before : before ≡ map (λ lane. lane.before) sessions
   pub links_after : after ≡ map (λ lane. lane.after) sessions
   pub reported : report.lanes ≡ map (λ lane. lane.report) sessions
-  pub session_lanes : All (IsSessionLane (record { graph = graph; origin = origin; budget = budget }) bytes
+  pub session_lanes : All (IsSessionLane (record { graph = graph; origin = origin; budget = budget }) policy
       (last ++ Closed ∷ [])) sessions

@@ -2,6 +2,7 @@
 use Rattle.std.specs.Prelude.{◌≡◌, ℕ, []}
 use Rattle.arc_graph.specs.History.{History, Operator, closed_history, with_none_pending}
 use Rattle.epoch_store.specs.Origin.{Origin, IsOperatorIn, IsPublishedIn}
+use Rattle.session_core.specs.declared.context.LinkPolicy.{LinkPolicy}
 use Rattle.session_core.specs.declared.end.SessionEnd.{SessionEnd}
 use Rattle.session_core.specs.Links.{Serves}
 use Rattle.session_core.specs.Operators.{IsOperatorBye, OperatorRun}
@@ -23,24 +24,24 @@ whole_of (Open operator) = closed_history operator
 whole_of (Closed whole) = whole
 
 -- The operator of a new store served a link, which ended so, and left this published and pending.
-abbrev pub ServesOperator : Origin → ℕ → LinkState → LinkState → SessionEnd → Operator → Type 0
-ServesOperator o bytes before after end left =
-    Serves (OperatorRun o) (IsOperatorBye o) bytes (record { published = []; pending = [] }) left
+abbrev pub ServesOperator : Origin → LinkPolicy → LinkState → LinkState → SessionEnd → Operator → Type 0
+ServesOperator o policy before after end left =
+    Serves (OperatorRun o) (IsOperatorBye o) policy (record { published = []; pending = [] }) left
     before.from after.from before.to after.to end
 
 -- It did so, and the store is as open as before.
-pub record ServesOpen {T : Type 0} (o : Origin) (bytes : ℕ) (before after : LinkState) (end : SessionEnd)
+pub record ServesOpen {T : Type 0} (o : Origin) (policy : LinkPolicy) (before after : LinkState) (end : SessionEnd)
     (store : StoreState T) : Type 0 where
   pub left : Operator
-  pub serves : ServesOperator o bytes before after end left
+  pub serves : ServesOperator o policy before after end left
   pub stays : store ≡ Open (with_none_pending left)
   pub operator : IsOperatorIn o (with_none_pending left)
 
 -- The operator's lane served a link, where links show this, and its store is closed.
-pub record OperatorServes {T L : Type 0} (show : L → LinkState) (o : Origin) (bytes : ℕ) (lane : OperatorLane T SessionEnd)
+pub record OperatorServes {T L : Type 0} (show : L → LinkState) (o : Origin) (policy : LinkPolicy) (lane : OperatorLane T SessionEnd)
     (link : L) (lane_after : OperatorLane T SessionEnd) (link_after : L) : Type 0 where
   pub left : Operator
-  pub serves : ServesOperator o bytes (show link) (show link_after) lane_after.end left
+  pub serves : ServesOperator o policy (show link) (show link_after) lane_after.end left
   pub closed : lane_after.store ≡ Closed (closed_history left)
   pub published : IsPublishedIn o (closed_history left)
 
@@ -49,10 +50,10 @@ abbrev pub IsFresh : Session → Type 0
 IsFresh session = session ≡ record { seen = []; named = [] }
 
 -- A session's lane served a link, where links show this, from nothing seen on.
-abbrev pub SessionServes : {T L : Type 0} → (L → LinkState) → Scene → ℕ → SessionLane T SessionEnd → L
+abbrev pub SessionServes : {T L : Type 0} → (L → LinkState) → Scene → LinkPolicy → SessionLane T SessionEnd → L
     → SessionLane T SessionEnd → L → Type 0
-SessionServes show scene bytes lane link lane_after link_after =
-    Serves (SessionGoes scene) (IsSessionBye scene) bytes (record { seen = []; named = [] }) lane_after.session
+SessionServes show scene policy lane link lane_after link_after =
+    Serves (SessionGoes scene) (IsSessionBye scene) policy (record { seen = []; named = [] }) lane_after.session
     (show link).from (show link_after).from (show link).to (show link_after).to lane_after.end
 
 -- the lane, once its session has learnt the whole history

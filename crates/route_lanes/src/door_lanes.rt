@@ -26,7 +26,7 @@ impl<T: Store, R, G> Attendant<ServeContext<'_, R, G>> for Operator<T> {
 
     ghost ready = { λ context operator. Match context.graph.now T.origin.base × (operator.pending ≡ []) };
 
-    ghost visits = { λ context. OperatorVisit T.origin context.bytes };
+    ghost visits = { λ context. OperatorVisit T.origin context.policy };
 }
 
 impl<T: Store, R, G> Attendant<ServeContext<'_, R, G>> for Session<T> {
@@ -36,7 +36,7 @@ impl<T: Store, R, G> Attendant<ServeContext<'_, R, G>> for Session<T> {
     ghost ready = { λ context session. CanSearch (scene_of context.graph.now T.origin context.budget) };
 
     ghost visits = { λ context. SessionVisit
-        (scene_of context.graph.now T.origin context.budget) context.bytes };
+        (scene_of context.graph.now T.origin context.budget) context.policy };
 }
 
 impl<T: Store> OperatorLane<T, DoorTally> {
@@ -44,7 +44,7 @@ impl<T: Store> OperatorLane<T, DoorTally> {
     fn serve_door<R: Wait, G, D: Door>(&mut self, context: &ServeContext<'_, R, G>, door: &mut D)
         requires new { IsNew self.old.store }
         requires weights { Match context.now.graph.now T.origin.base }
-        ensures { OperatorServesDoor D.state T.origin context.now.bytes
+        ensures { OperatorServesDoor D.state T.origin context.now.policy
             self.old door.old self.new door.new }
     {
         self.end = serve_open_door(context, &mut self.store, door);
@@ -64,7 +64,7 @@ fn serve_open_door<T: Store, R: Wait, G, D: Door>(
 ) -> DoorTally
     requires new { IsNew store.old }
     requires weights { Match context.now.graph.now T.origin.base }
-    ensures { ServesOpenDoor T.origin context.now.bytes (D.state door.old) (D.state door.new)
+    ensures { ServesOpenDoor T.origin context.now.policy (D.state door.old) (D.state door.new)
         result store.new }
 {
     match store {
@@ -92,7 +92,7 @@ impl<T: Store> SessionLane<T, DoorTally> {
         requires fresh { IsFresh self.old.session }
         requires search { CanSearch (scene_of context.now.graph.now T.origin context.now.budget) }
         ensures { SessionServesDoor D.state
-            (scene_of context.now.graph.now T.origin context.now.budget) context.now.bytes
+            (scene_of context.now.graph.now T.origin context.now.budget) context.now.policy
             self.old door.old self.new door.new }
     {
         let attend = |context: &ServeContext<'_, R, G>, session: &mut Session<T>, link: &mut Link<
@@ -126,16 +126,16 @@ pub(crate) fn serve_doors<
     requires operator { IsNew operator.old.store }
     requires sessions { All (λ lane. IsFresh lane.session) sessions.old }
     ensures { FirstAndAllServe
-        (OperatorServesDoor D.state T.origin context.now.bytes)
+        (OperatorServesDoor D.state T.origin context.now.policy)
         (SessionServesDoor D.state
-        (scene_of context.now.graph.now T.origin context.now.budget) context.now.bytes)
+        (scene_of context.now.graph.now T.origin context.now.budget) context.now.policy)
         operator.old sessions.old doors.old operator.new sessions.new doors.new }
 {
     serve_all(
         context.workers.rt(),
         &|lane: &mut OperatorLane<T, DoorTally>, door: &mut D|
             requires { IsNew lane.now.store × Match context.now.graph.now T.origin.base }
-            ensures { OperatorServesDoor D.state T.origin context.entry.now.bytes
+            ensures { OperatorServesDoor D.state T.origin context.entry.now.policy
                 lane.entry.now door.entry.now lane.exit.now door.exit.now }
         { lane.serve_door(context, door) },
         operator,
@@ -144,7 +144,7 @@ pub(crate) fn serve_doors<
                 (scene_of context.now.graph.now T.origin context.now.budget) }
             ensures { SessionServesDoor D.state
                 (scene_of context.entry.now.graph.now T.origin context.entry.now.budget)
-                context.entry.now.bytes lane.entry.now door.entry.now lane.exit.now door.exit.now }
+                context.entry.now.policy lane.entry.now door.entry.now lane.exit.now door.exit.now }
         { lane.serve_door(context, door) },
         sessions,
         doors,

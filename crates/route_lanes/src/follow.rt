@@ -80,7 +80,7 @@ pub fn run_follow<
     requires some_session { 1 ≤ length links.old }
     requires at_most_16_sessions { length links.old ≤ 16 }
     ensures { IfOk result (λ report. RunsFollow context.now.graph.now weights first
-        context.now.budget context.now.bytes (map F.state feeds.old) (map F.state feeds.new)
+        context.now.budget context.now.policy (map F.state feeds.old) (map F.state feeds.new)
         (map (λ l. record { from = S.state l.from; to = K.state l.to }) links.old)
         (map (λ l. record { from = S.state l.from; to = K.state l.to }) links.new) report) }
 {
@@ -117,7 +117,7 @@ fn follow_in_store<
     requires some_session { 1 ≤ length links.old }
     requires at_most_16_sessions { length links.old ≤ 16 }
     ensures { IfOk result (λ report. RunsFollow context.now.graph.now weights first
-        context.now.budget context.now.bytes (map F.state feeds.old) (map F.state feeds.new)
+        context.now.budget context.now.policy (map F.state feeds.old) (map F.state feeds.new)
         (map (λ l. record { from = S.state l.from; to = K.state l.to }) links.old)
         (map (λ l. record { from = S.state l.from; to = K.state l.to }) links.new) report) }
 {
@@ -170,7 +170,7 @@ fn follow_and_serve<
     ensures follower { LaneTakes F.state context.now.graph.now T.origin
         follower.old feeds.old follower.new feeds.new }
     ensures sessions { AllServe (SessionServes (state_of S.state K.state)
-        (scene_of context.now.graph.now T.origin context.now.budget) context.now.bytes)
+        (scene_of context.now.graph.now T.origin context.now.budget) context.now.policy)
         sessions.old links.old sessions.new links.new }
 {
     lead_beside(
@@ -187,7 +187,7 @@ fn follow_and_serve<
                 (scene_of context.now.graph.now T.origin context.now.budget) }
             ensures { SessionServes (state_of S.state K.state)
                 (scene_of context.entry.now.graph.now T.origin context.entry.now.budget)
-                context.entry.now.bytes lane.entry.now link.entry.now lane.exit.now link.exit.now }
+                context.entry.now.policy lane.entry.now link.entry.now lane.exit.now link.exit.now }
         { lane.serve(context, link) },
         sessions,
         links,

@@ -34,16 +34,16 @@ pub(crate) fn serve_links<
     requires operator { IsNew operator.old.store }
     requires sessions { All (λ lane. IsFresh lane.session) sessions.old }
     ensures { FirstAndAllServe
-        (OperatorServes (state_of S.state K.state) T.origin context.now.bytes)
+        (OperatorServes (state_of S.state K.state) T.origin context.now.policy)
         (SessionServes (state_of S.state K.state)
-        (scene_of context.now.graph.now T.origin context.now.budget) context.now.bytes)
+        (scene_of context.now.graph.now T.origin context.now.budget) context.now.policy)
         operator.old sessions.old links.old operator.new sessions.new links.new }
 {
     serve_all(
         context.workers.rt(),
         &|lane: &mut OperatorLane<T, SessionEnd>, link: &mut Link<S, K>|
             requires { IsNew lane.now.store × Match context.now.graph.now T.origin.base }
-            ensures { OperatorServes (state_of S.state K.state) T.origin context.entry.now.bytes
+            ensures { OperatorServes (state_of S.state K.state) T.origin context.entry.now.policy
                 lane.entry.now link.entry.now lane.exit.now link.exit.now }
         { lane.serve(context, link) },
         operator,
@@ -52,7 +52,7 @@ pub(crate) fn serve_links<
                 (scene_of context.now.graph.now T.origin context.now.budget) }
             ensures { SessionServes (state_of S.state K.state)
                 (scene_of context.entry.now.graph.now T.origin context.entry.now.budget)
-                context.entry.now.bytes lane.entry.now link.entry.now lane.exit.now link.exit.now }
+                context.entry.now.policy lane.entry.now link.entry.now lane.exit.now link.exit.now }
         { lane.serve(context, link) },
         sessions,
         links,

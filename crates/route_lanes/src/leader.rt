@@ -22,7 +22,7 @@ pub fn write_feed<R: Wait, G, S: Source, K: Sink, O: Sink>(
     out: &mut O,
 ) -> Result<(), ReplyFault>
     requires { Match context.now.graph.now weights }
-    ensures { WritesFeed context.now.graph.now weights first context.now.bytes
+    ensures { WritesFeed context.now.graph.now weights first context.now.policy
         (state_of S.state K.state link.old) (state_of S.state K.state link.new)
         (O.state out.old) (O.state out.new) result }
 {
@@ -42,7 +42,7 @@ fn write_in_store<R: Wait, G, S: Source, K: Sink, O: Sink, T: Store>(
     requires first { first ≡ T.origin.first }
     requires base { weights ≡ T.origin.base }
     requires weights { Match context.now.graph.now T.origin.base }
-    ensures { WritesFeed context.now.graph.now weights first context.now.bytes
+    ensures { WritesFeed context.now.graph.now weights first context.now.policy
         (state_of S.state K.state link.old) (state_of S.state K.state link.new)
         (O.state out.old) (O.state out.new) result }
 {
@@ -63,15 +63,19 @@ fn write_published<R: Wait, G, S: Source, K: Sink, O: Sink, T: Store>(
 ) -> Result<(), ReplyFault>
     requires new { operator.old ≡ record { published = []; pending = [] } }
     requires weights { Match context.now.graph.now T.origin.base }
-    ensures { WritesPublished context.now.graph.now T.origin context.now.bytes
+    ensures { WritesPublished context.now.graph.now T.origin context.now.policy
         (state_of S.state K.state link.old) (state_of S.state K.state link.new)
         (O.state out.old) (O.state out.new) result }
 {
     match serve_operator(context, operator, link) {
         SessionEnd::OutOfMemory(want) => Err(ReplyFault::OutOfMemory(want)),
-        _ => match put_feed(out, operator, context.graph) {
-            Ok(()) => Ok(()),
-            Err(fault) => Err(ReplyFault::Out(fault)),
-        },
+        _ => {
+            let _nodes = context.graph.nodes(); // a proof knows what every graph keeps
+            let _number = operator.number(); // and every operator
+            match put_feed(out, operator, context.graph) {
+                Ok(()) => Ok(()),
+                Err(fault) => Err(ReplyFault::Out(fault)),
+            }
+        }
     }
 }

@@ -33,7 +33,7 @@ impl<T: Store> OperatorLane<T, SessionEnd> {
     )
         requires new { IsNew self.old.store }
         requires weights { Match context.now.graph.now T.origin.base }
-        ensures { OperatorServes (state_of S.state K.state) T.origin context.now.bytes
+        ensures { OperatorServes (state_of S.state K.state) T.origin context.now.policy
             self.old link.old self.new link.new }
     {
         self.end = serve_open(context, &mut self.store, link);
@@ -53,7 +53,7 @@ fn serve_open<T: Store, R: Wait, G, S: Source, K: Sink>(
 ) -> SessionEnd
     requires new { IsNew store.old }
     requires weights { Match context.now.graph.now T.origin.base }
-    ensures { ServesOpen T.origin context.now.bytes (state_of S.state K.state link.old)
+    ensures { ServesOpen T.origin context.now.policy (state_of S.state K.state link.old)
         (state_of S.state K.state link.new) result store.new }
 {
     match store {

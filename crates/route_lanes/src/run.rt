@@ -39,7 +39,7 @@ pub fn run_lanes<R: Threads + Wait + Clock + Sync, G: Gate, S: Source + Send, K:
     requires some_session { 2 ≤ length links.old }
     requires at_most_16_sessions { length links.old ≤ 17 }
     ensures { IfOk result (λ reports. RunsLanes context.now.graph.now weights first
-        context.now.budget context.now.bytes
+        context.now.budget context.now.policy
         (map (λ l. record { from = S.state l.from; to = K.state l.to }) links.old)
         (map (λ l. record { from = S.state l.from; to = K.state l.to }) links.new)
         reports.items) }
@@ -68,7 +68,7 @@ fn run_in_store<
     requires some_session { 2 ≤ length links.old }
     requires at_most_16_sessions { length links.old ≤ 17 }
     ensures { IfOk result (λ reports. RunsLanes context.now.graph.now weights first
-        context.now.budget context.now.bytes
+        context.now.budget context.now.policy
         (map (λ l. record { from = S.state l.from; to = K.state l.to }) links.old)
         (map (λ l. record { from = S.state l.from; to = K.state l.to }) links.new)
         reports.items) }

@@ -47,7 +47,7 @@ pub fn serve_lanes<R: Threads + Wait + Clock + Sync, G: Gate, D: Door + Send>(
     requires budget { context.now.budget ≤ max_budget }
     requires some_session { 2 ≤ length doors.old }
     requires at_most_16_sessions { length doors.old ≤ 17 }
-    ensures { ServesLanes context.now.graph.now weights first context.now.budget context.now.bytes
+    ensures { ServesLanes context.now.graph.now weights first context.now.budget context.now.policy
         (map D.state doors.old) (map D.state doors.new) result }
 {
     serve_in_store::<R, G, D, Brand>(context, Chronicle::default(), weights, first, doors)
@@ -72,7 +72,7 @@ fn serve_in_store<
     requires search { CanSearch (scene_of context.now.graph.now T.origin context.now.budget) }
     requires some_session { 2 ≤ length doors.old }
     requires at_most_16_sessions { length doors.old ≤ 17 }
-    ensures { ServesLanes context.now.graph.now weights first context.now.budget context.now.bytes
+    ensures { ServesLanes context.now.graph.now weights first context.now.budget context.now.policy
         (map D.state doors.old) (map D.state doors.new) result }
 {
     let sessions = (doors.len() - 1) as u32;

@@ -34,7 +34,7 @@ impl<T: Store> SessionLane<T, SessionEnd> {
         requires fresh { IsFresh self.old.session }
         requires search { CanSearch (scene_of context.now.graph.now T.origin context.now.budget) }
         ensures { SessionServes (state_of S.state K.state)
-            (scene_of context.now.graph.now T.origin context.now.budget) context.now.bytes
+            (scene_of context.now.graph.now T.origin context.now.budget) context.now.policy
             self.old link.old self.new link.new }
     {
         self.end = self.session.serve(context, link);

@@ -3,11 +3,11 @@ use Rattle.std.proofs.Common.{◌≡◌, ◌≢◌, ℕ, ◌≤◌, List, [], �
 use Rattle.std.specs.Prelude.{All, Option, Result}
 use Rattle.std.proofs.lemmas.List.{length-map}
 use Rattle.arc_graph.specs.Graph.{Graph, Match, Weights, network}
-use Rattle.arc_graph.specs.History.{sets}
+use Rattle.arc_graph.specs.History.{IsOperator, Operator, sets}
 use Rattle.arc_graph.specs.History.HistoryEntry.{Closed}
 use Rattle.epoch_follow.specs.Text.{feed_text, head_of}
-use Rattle.epoch_follow.specs.declared.feed_end.FeedEnd.TheVariants as feed
-use Rattle.epoch_store.specs.Origin.{Origin}
+use Rattle.epoch_follow.specs.Takes.{feed_starved}
+use Rattle.epoch_store.specs.Origin.{IsOperatorIn, Origin}
 use Rattle.session_core.specs.declared.fault.ReplyFault.{ReplyFault}
 use Rattle.session_core.specs.declared.fault.ReplyFault.TheVariants as reply
 use Rattle.road_network.specs.Network.{Network}
@@ -32,7 +32,7 @@ use Rattle.route_top.specs.Follow.{FeedOfScript, RepliesBesideFeeds, WriteReplie
 use Rattle.route_top.specs.Lanes.{SaysScript, lanes_reply, max_script}
 use Rattle.route_top.proofs.FollowFeeds.{FeedsRun, feeds_run}
 use Rattle.route_top.proofs.FollowRuns.{sends_part, sends_whole}
-use Rattle.route_top.proofs.ServedScripts.{all_of_map, has_replied, lent_back, most_taken, sessions_exchange, state_of, unsent_sink}
+use Rattle.route_top.proofs.ServedScripts.{all_of_map, has_replied, lent_back, script_policy, sessions_exchange, state_of, unsent_sink}
 
 -- there is a feed for each name
 pub count_feeds : (files : Option FileMap) (names feeds : List (List ℕ)) → AllZip (SaysScript files) names feeds → length feeds ≡ length names
@@ -47,11 +47,11 @@ module _ {L : Type 0} (script_of : L → List ℕ) (sink_of : L → SureSink) wh
 
   -- all feeds were taken, and all sessions have replied
   pub followed : (asked : TakeWords) (g : Graph) (w : Weights) → Match g w → (feeds rests : List (List ℕ)) (olds news : List L) (report : FollowReport)
-      → RunsFollow g w asked.epoch asked.limits.budget most_taken (map sure_source_state feeds) (map sure_source_state rests)
+      → RunsFollow g w asked.epoch asked.limits.budget script_policy (map sure_source_state feeds) (map sure_source_state rests)
       (map (state_of script_of sink_of) olds) (map (state_of script_of sink_of) news) report
       → length feeds ≡ asked.links
       → All (λ link. length (script_of link) ≤ max_script) olds → All (λ link. sink_of link ≡ unsent_sink) olds
-      → All (λ r. r.end ≢ feed.OutOfMemory) report.feeds → All (λ r. is_starved r.end ≡ false) report.lanes
+      → All (λ r. feed_starved r.end ≡ false) report.feeds → All (λ r. is_starved r.end ≡ false) report.lanes
       → RepliesBesideFeeds asked (network g w) (feeds ++ map script_of olds)
       (feed_lines 1 report.feeds ++ lanes_reply 1 (map (λ link. (sink_of link).sent) news))
   followed asked g w matched feeds rests olds news report runs count short unsent no_feed_wants no_lane_wants =
@@ -81,11 +81,11 @@ module _ {L : Type 0} (script_of : L → List ℕ) (sink_of : L → SureSink) wh
   pub followed_over : (asked : TakeWords) (g : Graph) (w : Weights) → Match g w → (feeds lent rests : List (List ℕ)) (items olds news after : List L) (n : ℕ)
       (report : FollowReport) (text : List FeedReport) → lent ≡ feeds → olds ≡ items → n ≡ length items → after ≡ take n (news ++ drop (length news) items)
       → text ≡ report.feeds
-      → RunsFollow g w asked.epoch asked.limits.budget most_taken (map sure_source_state lent) (map sure_source_state rests)
+      → RunsFollow g w asked.epoch asked.limits.budget script_policy (map sure_source_state lent) (map sure_source_state rests)
       (map (state_of script_of sink_of) olds) (map (state_of script_of sink_of) news) report
       → length feeds ≡ asked.links
       → All (λ link. length (script_of link) ≤ max_script) items → All (λ link. sink_of link ≡ unsent_sink) items
-      → All (λ r. r.end ≢ feed.OutOfMemory) report.feeds → All (λ r. is_starved r.end ≡ false) report.lanes
+      → All (λ r. feed_starved r.end ≡ false) report.feeds → All (λ r. is_starved r.end ≡ false) report.lanes
       → RepliesBesideFeeds asked (network g w) (feeds ++ map script_of items)
       (feed_lines 1 text ++ lanes_reply 1 (map (λ link. (sink_of link).sent) after))
   followed_over asked g w matched feeds lent rests items olds news after n report text same_feeds same count back shown runs some short unsent no_feed_wants no_lane_wants =
@@ -101,7 +101,7 @@ module _ {L : Type 0} (script_of : L → List ℕ) (sink_of : L → SureSink) wh
         length-map runs.sessions (λ (lane : Lane). lane.before),
         length-map runs.sessions (λ (lane : Lane). lane.after),
       ) in
-      let Runs : List (List ℕ) → List L → Type 0 = λ fs ls. RunsFollow g w asked.epoch asked.limits.budget most_taken (map sure_source_state fs)
+      let Runs : List (List ℕ) → List L → Type 0 = λ fs ls. RunsFollow g w asked.epoch asked.limits.budget script_policy (map sure_source_state fs)
       (map sure_source_state rests) (map (state_of script_of sink_of) ls) (map (state_of script_of sink_of) news) report in
       let over = subst (λ fs. Runs fs items) same_feeds (subst (Runs lent) same runs) in
       let whole = followed asked g w matched feeds rests items news report over some short unsent no_feed_wants no_lane_wants in
@@ -120,8 +120,17 @@ module _ (asked : WriteWords) (g : Graph) (w : Weights) (matched : Match g w) (s
   abbrev weights_of_states : ℕ → List (Option (List ℕ)) → Weights
   weights_of_states criteria states = record { criteria = criteria; states = states }
 
+  -- what the operator keeps, by the network
+  limits_of : (o : Origin) → o.first ≡ asked.epoch → o.base ≡ w → (left : Operator) → IsOperatorIn o left
+      → IsOperator (length g.ends) g.criteria asked.epoch left
+  limits_of o first base left is =
+      let Keeps : ℕ → ℕ → ℕ → Type 0 = λ arcs criteria n. IsOperator arcs criteria n left in
+      let by_base = subst (λ (b : Weights). Keeps (length b.states) b.criteria o.first) base is in
+      subst (Keeps (length g.ends) g.criteria) first (subst (λ n. Keeps (length g.ends) n o.first) matched.criteria
+      (subst (λ n. Keeps n w.criteria o.first) matched.arcs by_base))
+
   sends_feed : (o : Origin) (result : Result (Unit {0}) WriteFault) → o.first ≡ asked.epoch → o.base ≡ w
-      → IsFeedWritten g o most_taken (record { from = sure_source_state script; to = sure_sink_state to })
+      → IsFeedWritten g o script_policy (record { from = sure_source_state script; to = sure_sink_state to })
       (record { from = sure_source_state rest; to = sure_sink_state replied }) out sent result → SendsFeed asked (network g w) script out sent result
   sends_feed o result first base written =
       let replies = has_replied (OperatorRun o) (IsOperatorBye o) (record { published = []; pending = [] }) written.left script rest to replied short unsent
@@ -137,13 +146,15 @@ module _ (asked : WriteWords) (g : Graph) (w : Weights) (matched : Match g w) (s
           left = written.left;
           operator = replies.exchanges;
           operator_exchange = record { run = replies.runs; lines = replies.lines };
+          graph = written.is_graph;
+          limits = limits_of o first base written.left written.operator;
           text_is = refl;
         };
         sends = subst (λ (n : ℕ). Sends out sent (feed_text (head_of g n) written.left.published 1 (sets written.left.published)) result) first written.sends;
       }
 
   abbrev writes : Result (Unit {0}) ReplyFault → Type 0
-  writes result = WritesFeed g w asked.epoch most_taken (record { from = sure_source_state script; to = sure_sink_state to })
+  writes result = WritesFeed g w asked.epoch script_policy (record { from = sure_source_state script; to = sure_sink_state to })
       (record { from = sure_source_state rest; to = sure_sink_state replied }) out sent result
 
   -- the feed was sent

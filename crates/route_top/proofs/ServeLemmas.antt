@@ -32,7 +32,7 @@ use Rattle.still_commands.specs.Outcome.{Outcome, done, no_memory, status_of, to
 use Rattle.still_commands.specs.Stops.{Replies, outcome_of, stop_of_town}
 use Rattle.still_commands.proofs.RunsLemmas.{nothing_sent, replies_so, sent_part, sent_whole, starves, stays}
 use Rattle.route_top.specs.Lanes.{graph_of, weights_of}
-use Rattle.route_top.specs.Serve.{ServeReplies, ServesDoors, ServesTown, EndsTown, TownByWords, asks, left_alone, listened, max_taken, ready_reply, refused, served, served_by, served_outcome, serves, unasked, unheard, unread, unready}
+use Rattle.route_top.specs.Serve.{ServeReplies, ServesDoors, ServesTown, EndsTown, TownByWords, asks, left_alone, listened, serve_policy, ready_reply, refused, served, served_by, served_outcome, serves, unasked, unheard, unread, unready}
 
 -- ---- what is sent
 
@@ -85,12 +85,12 @@ not_ready asked net doors out replied (write.OutOfMemory want) sent = unready (w
 -- doors that were served over a graph and weights of its arcs were so over the network of both
 pub serves_over : (asked : ServeWords) (g : Graph) (w : Weights) → Match g w → (doors after : List DoorState) (out replied : SinkState)
     (result : Result Served OutOfMemory) → Sends {T = Unit {0}} out replied (ready_reply asked.lanes) (Ok tt)
-    → ServesLanes g w asked.epoch asked.limits.budget max_taken doors after result
+    → ServesLanes g w asked.epoch asked.limits.budget serve_policy doors after result
     → ServesDoors asked (network g w) doors after out replied (served_outcome result)
 serves_over asked g w matched doors after out replied result sent lanes =
     let by : ℕ → Weights = λ n. record { criteria = n; states = w.states } in
     let whole : w ≡ weights_of (network g w) = ap by matched.criteria in
-    served result sent (subst (λ v. ServesLanes g v asked.epoch asked.limits.budget max_taken doors after result) whole lanes)
+    served result sent (subst (λ v. ServesLanes g v asked.epoch asked.limits.budget serve_policy doors after result) whole lanes)
 
 -- ---- the places of doors
 
@@ -174,7 +174,7 @@ zero_by false false not_ten not_nine = refl
 
 module _ (asked : ServeWords) (net : Network) (links : ℕ) (doors after : List DoorState) (fresh : All (IsNewDoor links) doors) (out replied : SinkState) where
   -- the failed doors of lanes that were served
-  any_served : (tally : Served) → ServesLanes (graph_of net) (weights_of net) asked.epoch asked.limits.budget max_taken doors after (Ok tally)
+  any_served : (tally : Served) → ServesLanes (graph_of net) (weights_of net) asked.epoch asked.limits.budget serve_policy doors after (Ok tally)
       → any_failed after ≡ ltb 0 tally.failed
   any_served tally lanes =
       let all = lanes.operator ∷ lanes.sessions in

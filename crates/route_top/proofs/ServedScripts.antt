@@ -8,7 +8,8 @@ use Rattle.route_io.specs.Forms.{SureSink, sure_sink_state, sure_source_state}
 use Rattle.session_core.specs.declared.end.SessionEnd.{SessionEnd}
 use Rattle.session_core.specs.declared.end.SessionEnd.TheVariants.{Ended, ReadFault, WriteFault, TooLong, OutOfMemory}
 use Rattle.session_core.specs.Lines.{ended_lines}
-use Rattle.session_core.specs.Links.{Serves, TakesLines, is_starved}
+use Rattle.session_core.specs.Links.{EndsLink, Serves, TakesLines, is_starved}
+use Rattle.session_core.specs.declared.context.LinkPolicy.{LinkPolicy}
 use Rattle.session_core.specs.Exchanges.{Exchange, lines_exchanged, text_exchanged}
 use Rattle.std.proofs.lemmas.List.{drop_all, length-map, take_all}
 use Rattle.std.proofs.lemmas.List.Elements.{All-cons, All-head, All-nil, All-tail}
@@ -55,6 +56,10 @@ first_of_all lines taken rest first =
 abbrev pub most_taken : ℕ
 most_taken = 2 ^ 40
 
+-- how a script is served: a line of HTTP is one like any other
+abbrev pub script_policy : LinkPolicy
+script_policy = record { bytes = most_taken; guarded = false }
+
 module _ (IsBye : List ℕ → Type 0) (script rest : List ℕ) (lines : List (List ℕ)) where
   lines_at_end : (taken : List ℕ) → script ≡ taken ++ rest → rest ≡ [] → lines_of taken ≡ lines_of script
   lines_at_end taken whole none = ap lines_of (sym (whole ∙ ap (λ more. taken ++ more) none ∙ append-nil taken))
@@ -74,6 +79,13 @@ module _ (IsBye : List ℕ → Type 0) (script rest : List ℕ) (lines : List (L
     | inr all ↦ inl (all.1 ∙ lines_at_end takes.taken takes.takes all.0.at_end)
   ]
 
+-- where the link of a script isn't guarded, a line that ends it ends a session
+unguarded : (IsBye : List ℕ → Type 0) (script : List ℕ) (lines : List (List ℕ)) → AreLinesOf script (EndsLink script_policy IsBye) lines
+    → AreLinesOf script IsBye lines
+unguarded IsBye script lines (inl all) = inl all
+unguarded IsBye script lines (inr (bye, inl is, begins)) = inr (bye, is, begins)
+unguarded IsBye script lines (inr (bye, inr (no, http), begins)) = absurd cc
+
 -- What a lane that wanted no memory has replied to its script.
 pub record HasReplied {State : Type 0} (Progresses : State → List Exchange → State → Type 0) (IsBye : List ℕ → Type 0) (old new : State)
     (script sent : List ℕ) : Type 0 where
@@ -85,12 +97,13 @@ pub record HasReplied {State : Type 0} (Progresses : State → List Exchange →
 module _ {State : Type 0} (Progresses : State → List Exchange → State → Type 0) (IsBye : List ℕ → Type 0) (old new : State)
     (script rest : List ℕ) (to replied : SureSink) (short : length script ≤ max_script) (unsent : to ≡ record { sent = []; wants = 0 }) where
   pub has_replied : (end : SessionEnd) → is_starved end ≡ false
-      → Serves Progresses IsBye most_taken old new (sure_source_state script) (sure_source_state rest) (sure_sink_state to) (sure_sink_state replied) end
+      → Serves Progresses IsBye script_policy old new (sure_source_state script) (sure_source_state rest) (sure_sink_state to) (sure_sink_state replied) end
       → HasReplied Progresses IsBye old new script replied.sent
   has_replied Ended no_want serves = record {
     exchanges = serves.exchanges;
     runs = serves.runs;
-    lines = lines_are IsBye script rest (lines_exchanged serves.exchanges) serves.lines;
+    lines = unguarded IsBye script (lines_exchanged serves.exchanges)
+        (lines_are (EndsLink script_policy IsBye) script rest (lines_exchanged serves.exchanges) serves.lines);
     sent_is = serves.sent ∙ ap (λ sink. sink.sent ++ text_exchanged serves.exchanges) unsent;
   }
   has_replied ReadFault no_want serves = absurd (omega (arith, serves.reads.cause.1))
@@ -120,10 +133,10 @@ module _ {L : Type 0} (script_of : L → List ℕ) (sink_of : L → SureSink) wh
   served_by : {State : Type 0} (Progresses : State → List Exchange → State → Type 0) (IsBye : List ℕ → Type 0) (old new : State) (lane : Lane) (link after : L)
       → state_of link ≡ lane.before → state_of after ≡ lane.after → length (script_of link) ≤ max_script → sink_of link ≡ unsent_sink
       → is_starved lane.report.end ≡ false
-      → Serves Progresses IsBye most_taken old new lane.before.from lane.after.from lane.before.to lane.after.to lane.report.end
+      → Serves Progresses IsBye script_policy old new lane.before.from lane.after.from lane.before.to lane.after.to lane.report.end
       → HasReplied Progresses IsBye old new (script_of link) (sink_of after).sent
   served_by Progresses IsBye old new lane link after before_is after_is short unsent no_want serves =
-      let Between : LinkState → LinkState → Type 0 = λ b a. Serves Progresses IsBye most_taken old new b.from a.from b.to a.to lane.report.end in
+      let Between : LinkState → LinkState → Type 0 = λ b a. Serves Progresses IsBye script_policy old new b.from a.from b.to a.to lane.report.end in
       let between : Between (state_of link) (state_of after) =
       subst (λ b. Between b (state_of after)) (sym before_is) (subst (λ a. Between lane.before a) (sym after_is) serves) in
       has_replied Progresses IsBye old new (script_of link) (script_of after) (sink_of link) (sink_of after) short unsent lane.report.end no_want between
@@ -138,7 +151,7 @@ module _ {L : Type 0} (script_of : L → List ℕ) (sink_of : L → SureSink) wh
     pub sessions_exchange : (lanes : List Lane) (olds news : List L) → map state_of olds ≡ map (λ lane. lane.before) lanes
         → map state_of news ≡ map (λ lane. lane.after) lanes → All (λ link. length (script_of link) ≤ max_script) olds
         → All (λ link. sink_of link ≡ unsent_sink) olds → All (λ lane. is_starved lane.report.end ≡ false) lanes
-        → All (IsSessionLane scene most_taken whole) lanes
+        → All (IsSessionLane scene script_policy whole) lanes
         → SessionsExchange scene whole (map script_of olds) (map (λ link. (sink_of link).sent) news)
     sessions_exchange [] [] [] e f short unsent no_want each = record { exchanges = []; each = tt; sent_is = refl }
     sessions_exchange [] [] (new ∷ news) e f short unsent no_want each = absurd cc
@@ -151,9 +164,9 @@ module _ {L : Type 0} (script_of : L → List ℕ) (sink_of : L → SureSink) wh
         let wants_none : Lane → Type 0 = λ l. is_starved l.report.end ≡ false in
         let first = served_by (SessionGoes scene) (IsSessionBye scene) (record { seen = []; named = [] })
         (record { seen = whole; named = lane.report.numbers }) lane old new (cc e) (cc f) (All-head is_short old olds short)
-        (All-head is_unsent old olds unsent) (All-head wants_none lane lanes no_want) (All-head (IsSessionLane scene most_taken whole) lane lanes each).serves in
+        (All-head is_unsent old olds unsent) (All-head wants_none lane lanes no_want) (All-head (IsSessionLane scene script_policy whole) lane lanes each).serves in
         let rest = sessions_exchange lanes olds news (cc e) (cc f) (All-tail is_short old olds short) (All-tail is_unsent old olds unsent)
-        (All-tail wants_none lane lanes no_want) (All-tail (IsSessionLane scene most_taken whole) lane lanes each) in
+        (All-tail wants_none lane lanes no_want) (All-tail (IsSessionLane scene script_policy whole) lane lanes each) in
         record {
           exchanges = first.exchanges ∷ rest.exchanges;
           each = (record { run = first.runs.run; lines = first.lines }, rest.each);
@@ -165,7 +178,7 @@ module _ {L : Type 0} (script_of : L → List ℕ) (sink_of : L → SureSink) wh
 
   -- all lanes have replied to their scripts
   pub scripts_exchanged : (asked : LanesWords) (g : Graph) (w : Weights) → Match g w → (olds news : List L) (reports : List LaneReport)
-      → RunsLanes g w asked.epoch asked.limits.budget most_taken (map state_of olds) (map state_of news) reports
+      → RunsLanes g w asked.epoch asked.limits.budget script_policy (map state_of olds) (map state_of news) reports
       → All (λ link. length (script_of link) ≤ max_script) olds → All (λ link. sink_of link ≡ unsent_sink) olds
       → All (λ report. is_starved report.end ≡ false) reports → (net : Network) → net ≡ network g w
       → RepliesToScripts asked net (map script_of olds) (lanes_reply 0 (map (λ link. (sink_of link).sent) news))
@@ -208,7 +221,7 @@ module _ {L : Type 0} (script_of : L → List ℕ) (sink_of : L → SureSink) wh
   -- the same, where the links were lent out of a list, and the reports out of another
   pub links_exchanged : (asked : LanesWords) (g : Graph) (w : Weights) → Match g w → (items olds news after : List L) (n : ℕ)
       (reports kept : List LaneReport) → olds ≡ items → n ≡ length items → after ≡ take n (news ++ drop (length news) items) → kept ≡ reports
-      → RunsLanes g w asked.epoch asked.limits.budget most_taken (map state_of olds) (map state_of news) reports
+      → RunsLanes g w asked.epoch asked.limits.budget script_policy (map state_of olds) (map state_of news) reports
       → All (λ link. length (script_of link) ≤ max_script) items → All (λ link. sink_of link ≡ unsent_sink) items
       → All (λ report. is_starved report.end ≡ false) kept
       → RepliesToScripts asked (network g w) (map script_of items) (lanes_reply 0 (map (λ link. (sink_of link).sent) after))
@@ -225,7 +238,7 @@ module _ {L : Type 0} (script_of : L → List ℕ) (sink_of : L → SureSink) wh
         length-map lanes (λ lane. lane.before),
         length-map lanes (λ lane. lane.after),
       ) in
-      let over = subst (λ links. RunsLanes g w asked.epoch asked.limits.budget most_taken (map state_of links) (map state_of news) reports) same runs in
+      let over = subst (λ links. RunsLanes g w asked.epoch asked.limits.budget script_policy (map state_of links) (map state_of news) reports) same runs in
       let none_wants = subst (All (λ (report : LaneReport). is_starved report.end ≡ false)) same_reports no_want in
       subst Exchange (sym (back ∙ lent_back n news items count long))
       (scripts_exchanged asked g w matched items news reports over short unsent none_wants (network g w) refl)

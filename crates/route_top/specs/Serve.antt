@@ -14,6 +14,7 @@ use Rattle.command_words.specs.declared.commands.Command.{Command}
 use Rattle.command_words.specs.declared.commands.Command.TheVariants.{Waiting}
 use Rattle.command_words.specs.declared.commands.ServeWords.{ServeWords}
 use Rattle.command_words.specs.declared.commands.WaitingCommand.TheVariants.{Serve}
+use Rattle.session_core.specs.declared.context.LinkPolicy.{LinkPolicy}
 use Rattle.route_lanes.specs.Serving.{ServesLanes}
 use Rattle.route_lanes.specs.declared.serve.Served.{Served}
 use Rattle.still_commands.specs.FilesRead.{FilesStop, ReadAs}
@@ -23,6 +24,10 @@ use Rattle.route_top.specs.Lanes.{graph_of, weights_of}
 -- the most bytes that are taken from a link
 abbrev pub max_taken : ℕ
 max_taken = 2 ^ 40
+
+-- how each link is served: a line of HTTP ends it, so that no web page can have a line obeyed
+abbrev pub serve_policy : LinkPolicy
+serve_policy = record { bytes = max_taken; guarded = true }
 
 -- `ready L`: links may come in, for L lanes of sessions
 abbrev pub ready_reply : ℕ → List ℕ
@@ -59,7 +64,7 @@ pub data ServesDoors (asked : ServeWords) (net : Network) (doors after : List Do
       → ServesDoors asked net doors after out replied (cut_outcome fault)
   -- it was said, and all lanes served their doors
   served : (result : Result Served OutOfMemory) → Sends {T = Unit {0}} out replied (ready_reply asked.lanes) (Ok tt)
-      → ServesLanes (graph_of net) (weights_of net) asked.epoch asked.limits.budget max_taken doors after result
+      → ServesLanes (graph_of net) (weights_of net) asked.epoch asked.limits.budget serve_policy doors after result
       → ServesDoors asked net doors after out replied (served_outcome result)
 
 -- How a town stands after it was asked to listen, what was sent then, and how that ends the run.

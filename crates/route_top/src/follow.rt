@@ -14,7 +14,7 @@ ghost use Rattle.still_commands.specs.Stops.{outcome_of, run_outcome};
 ghost use Rattle.route_top.specs.Follow.{FollowEnds, feed_line, feed_lines, numbered};
 ghost use Rattle.route_top.specs.Lanes.{SaysScript, ScriptsStop, lanes_reply};
 
-use crate::lanes::{MAX_TAKEN, link_of, memory_sufficed, put_lanes};
+use crate::lanes::{SCRIPT_POLICY, link_of, memory_sufficed, put_lanes};
 use crate::script::read_script;
 use answer_writer::{Piece, put_line};
 use command_words::{FollowWords, TakeWords, WriteWords};
@@ -75,7 +75,7 @@ fn write_script<'a, R: Threads + Wait + Clock + Sync, G: Gate, F: Folder, K: Sin
         alloc,
         graph: &graph,
         budget: 0,
-        bytes: MAX_TAKEN,
+        policy: SCRIPT_POLICY,
     };
     write_feed(&context, weights, asked.epoch, &mut link, out)?;
     Ok(())
@@ -105,7 +105,7 @@ fn take_feeds<'a, R: Threads + Wait + Clock + Sync, G: Gate, F: Folder, K: Sink>
         alloc,
         graph: &graph,
         budget,
-        bytes: MAX_TAKEN,
+        policy: SCRIPT_POLICY,
     };
     prove!(asked.count.get() >= 1);
     let report = run_follow(&context, weights, asked.epoch, &mut feeds, &mut links)?;

@@ -20,7 +20,7 @@ use out_of_memory::OutOfMemory;
 use route_io::sure::{SureSink, SureSource};
 use route_io::{Folder, Gate, Link, Sink, SureLink, WriteFault, put_all};
 use route_lanes::{LaneReport, run_lanes};
-use session_core::{ServeContext, SessionEnd};
+use session_core::{LinkPolicy, ServeContext, SessionEnd};
 use std::alloc::Global;
 use std::sync::Wait;
 use std::thread::Threads;
@@ -30,6 +30,12 @@ use work_claim::{Helpers, Workers};
 
 /// The most bytes that are taken from a link. No script has as many.
 pub(crate) const MAX_TAKEN: u64 = 1 << 40;
+
+/// How a script is served: a line of HTTP is one like any other.
+pub(crate) const SCRIPT_POLICY: LinkPolicy = LinkPolicy {
+    bytes: MAX_TAKEN,
+    guarded: false,
+};
 
 /// Serves the lanes of an operator and of sessions over the named files, and sends their replies lane by lane.
 pub(crate) fn run<'a, R: Threads + Wait + Clock + Sync, G: Gate, F: Folder, K: Sink>(
@@ -55,7 +61,7 @@ pub(crate) fn run<'a, R: Threads + Wait + Clock + Sync, G: Gate, F: Folder, K: S
         alloc,
         graph: &graph,
         budget,
-        bytes: MAX_TAKEN,
+        policy: SCRIPT_POLICY,
     };
     prove!(asked.count.get() >= 1);
     let reports = run_lanes(&context, weights, asked.epoch, &mut links)?;

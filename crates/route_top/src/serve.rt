@@ -8,7 +8,7 @@ ghost use Rattle.command_words.specs.declared.commands.WaitingCommand.TheVariant
 ghost use Rattle.still_commands.specs.Output.{RunsCommand};
 ghost use Rattle.still_commands.specs.Stops.{run_outcome};
 ghost use Rattle.route_top.specs.Ends.{Ends};
-ghost use Rattle.route_top.specs.Serve.{AsksTown, ServesDoors, ServesTown, max_taken, ready_reply, served_outcome};
+ghost use Rattle.route_top.specs.Serve.{AsksTown, ServesDoors, ServesTown, ready_reply, serve_policy, served_outcome};
 
 use crate::lanes::MAX_TAKEN;
 use answer_writer::{Piece, put_line};
@@ -18,13 +18,19 @@ use link_doors::{Door, Town};
 use out_of_memory::OutOfMemory;
 use route_io::{Folder, Gate, Sink, WriteFault};
 use route_lanes::{Served, serve_lanes};
-use session_core::ServeContext;
+use session_core::{LinkPolicy, ServeContext};
 use std::alloc::Global;
 use std::sync::Wait;
 use std::thread::Threads;
 use std::time::Clock;
 use still_commands::{Stop, read_network};
 use work_claim::{Helpers, Workers};
+
+/// How each link is served: a line of HTTP ends it, so that no web page can have a line obeyed.
+const SERVE_POLICY: LinkPolicy = LinkPolicy {
+    bytes: MAX_TAKEN,
+    guarded: true,
+};
 
 /// Has the town listen over the network of the named files, and serves what its doors give until they give no more.
 pub(crate) fn run<'a, R: Threads + Wait + Clock + Sync, G: Gate, F: Folder, K: Sink, T: Town>(
@@ -56,7 +62,7 @@ pub(crate) fn run<'a, R: Threads + Wait + Clock + Sync, G: Gate, F: Folder, K: S
         alloc,
         graph: &graph,
         budget,
-        bytes: MAX_TAKEN,
+        policy: SERVE_POLICY,
     };
     serve_town(&context, weights, asked, out, town)
 }
@@ -74,7 +80,7 @@ fn serve_town<'a, R: Threads + Wait + Clock + Sync, G: Gate, K: Sink, T: Town>(
     requires unasked { (T.state town.old).asked ≡ false }
     requires weights { Match context.now.graph.now weights }
     requires budget { context.now.budget ≡ asked.now.limits.budget }
-    requires bytes { context.now.bytes ≡ max_taken }
+    requires policy { context.now.policy ≡ serve_policy }
     ensures { ServesTown asked.now (network context.now.graph.now weights)
         (T.state town.old) (T.state town.new) (K.state out.old) (K.state out.new)
         (run_outcome result) }
@@ -97,7 +103,7 @@ fn serve_doors<'a, R: Threads + Wait + Clock + Sync, G: Gate, K: Sink, D: Door +
 ) -> Result<(), Stop<'a>>
     requires weights { Match context.now.graph.now weights }
     requires budget { context.now.budget ≡ asked.now.limits.budget }
-    requires bytes { context.now.bytes ≡ max_taken }
+    requires policy { context.now.policy ≡ serve_policy }
     requires some_session { 2 ≤ length doors.old }
     requires at_most_16_sessions { length doors.old ≤ 17 }
     ensures { ServesDoors asked.now (network context.now.graph.now weights)

@@ -1,8 +1,9 @@
 -- A link is served line by line.
-use Rattle.std.proofs.Common.{◌≡◌, ℕ, ◌+◌, ◌<◌, ◌≤◌, true, false, List, [], ◌∷◌, ◌++◌, Option, Some, None, IfSome, IsSomeAnd, Result, Ok, Err, length, take, replicate, refl, sym, ap, subst, ◌∙◌, arith, append-nil, length-append, ⊎_elim, inl, inr}
+use Rattle.std.proofs.Common.{◌≡◌, ℕ, ◌+◌, ◌<◌, ◌≤◌, ◌&&◌, Bool, true, false, List, [], ◌∷◌, ◌++◌, Option, Some, None, IfSome, IsSomeAnd, Result, Ok, Err, length, take, refl, sym, ap, subst, ◌∙◌, arith, append-nil, length-append, ⊎_elim, inl, inr}
 use Rattle.std.proofs.KnownBytes.{Appends-trans, Appends-nil}
 use Rattle.std.proofs.lemmas.Grind.{flat_map-append}
-use Rattle.std.proofs.lemmas.List.{map-append, length-replicate}
+use Rattle.std.proofs.lemmas.List.{map-append}
+use Rattle.std.proofs.lemmas.List.Elements.{All-append, All-cons, All-nil}
 use Rattle.std.specs.Io.KnownBytes.{prepend_known}
 use mathlib.Core.List.{IsPrefix}
 use Rattle.route_io.specs.Sinks.{SinkState, Sends}
@@ -11,6 +12,7 @@ use Rattle.route_io.specs.declared.fault.WriteFault.{WriteFault as Cut}
 use Rattle.route_io.specs.declared.fault.WriteFault.TheVariants as write
 use Rattle.route_io.proofs.ReadsLemmas.{ReadsFrom-then}
 use Rattle.route_io.proofs.SendsLemmas.{Sends-then}
+use Rattle.line_text.specs.Http.{is_http}
 use Rattle.line_text.specs.Lines.{first_lf, raw_line, lines_of}
 use Rattle.line_text.specs.Reading.{Lines, begun, line_failed, rest_of}
 use Rattle.line_text.specs.Requests.{RequestCounts, Requests, TellsRequest}
@@ -28,7 +30,8 @@ use Rattle.session_core.specs.declared.end.SessionEnd.TheVariants.{Ended, ReadFa
 use Rattle.session_core.specs.declared.handler.Answered.{Answered}
 use Rattle.session_core.specs.declared.handler.Answered.TheVariants.{Replied, Bye}
 use Rattle.session_core.specs.Lines.{IsText, ended_lines, max_request}
-use Rattle.session_core.specs.Links.{AreFirst, Begins, CutsLast, IsAll, SendsReplies, Serves, TakesLines, is_read_fault, is_write_fault}
+use Rattle.session_core.specs.declared.context.LinkPolicy.{LinkPolicy}
+use Rattle.session_core.specs.Links.{AreFirst, Begins, CutsLast, EndsLink, IsAll, RepliesToNoHttp, SendsReplies, Serves, TakesLines, is_read_fault, is_write_fault}
 use Rattle.session_core.specs.Handlers.{AnswersLine, TellsOne}
 use Rattle.session_core.specs.Serving.{AreAll, PassesLines, Served, ServesOne, end_by_answer, end_by_input}
 use Rattle.session_core.specs.Exchanges.{Exchange, lines_exchanged, text_exchanged}
@@ -63,9 +66,18 @@ first_without total taken left lines more first =
     (λ (q : IsAll total taken left × IsPrefix (lines ++ more) (lines_of taken)).
     inr (q.0, prefix_trans lines (lines ++ more) (lines_of taken) (more, refl) q.1)) first
 
-module _ {State : Type 0} (Progresses : State → List Exchange → State → Type 0) (total : ℕ) where
+-- what the test of a guarded link tells
+guards : (guarded http : Bool) → (guarded && http) ≡ true → (guarded ≡ true) × (http ≡ true)
+guards true http e = (refl, e)
+guards false http e = absurd cc
+
+unguarded : (guarded http : Bool) → guarded ≡ true → (guarded && http) ≡ false → http ≡ false
+unguarded true http is unseen = unseen
+unguarded false http is unseen = absurd cc
+
+module _ {State : Type 0} (Progresses : State → List Exchange → State → Type 0) (policy : LinkPolicy) where
   served_none : (old : State) (from : SourceState) (to : SinkState) → Progresses old [] old
-      → Served Progresses total old old from from to to (begun (record { line = max_request; total = total }))
+      → Served Progresses policy old old from from to to (begun (record { line = max_request; total = policy.bytes }))
   served_none old from to runs = record {
     exchanges = [];
     runs = runs;
@@ -74,11 +86,12 @@ module _ {State : Type 0} (Progresses : State → List Exchange → State → Ty
     knows_end = λ e. absurd cc;
     within = omega arith;
     each = omega arith;
+    no_http = λ guarded. All-nil _;
     passes = by from.left;
     sent = record { bytes = Appends-nil to.sent; cause = record { faults = refl; wants = refl } };
     reads = record { cause = refl; files = refl };
   } where
-    by : (left : Option (List ℕ)) → IfSome left (λ text. PassesLines total text (begun (record { line = max_request; total = total })) left [])
+    by : (left : Option (List ℕ)) → IfSome left (λ text. PassesLines policy.bytes text (begun (record { line = max_request; total = policy.bytes })) left [])
     by None = tt
     by (Some text) = record {
       passed = [];
@@ -90,21 +103,27 @@ module _ {State : Type 0} (Progresses : State → List Exchange → State → Ty
     }
 
   -- before the first line
-  pub served_begun : (old : State) (from : SourceState) (to : SinkState) (reader : Lines) → reader ≡ begun (record { line = max_request; total = total })
-      → Progresses old [] old → Served Progresses total old old from from to to reader
+  pub served_begun : (old : State) (from : SourceState) (to : SinkState) (reader : Lines) → reader ≡ begun (record { line = max_request; total = policy.bytes })
+      → Progresses old [] old → Served Progresses policy old old from from to to reader
   served_begun old from to reader is runs = rw is (served_none old from to runs)
 
-module _ {State : Type 0} (Progresses : State → List Exchange → State → Type 0) (IsBye : List ℕ → Type 0) (total : ℕ) where
+module _ {State : Type 0} (Progresses : State → List Exchange → State → Type 0) (IsBye : List ℕ → Type 0) (policy : LinkPolicy) where
+  abbrev total : ℕ
+  total = policy.bytes
+
+  abbrev Ends : List ℕ → Type 0
+  Ends = EndsLink policy IsBye
+
   -- where the lines are first ones of what was taken, and an end says so of those told
   takes_by : (reader : Lines) (left : Option (List ℕ)) (lines exchanges : List (List ℕ)) (end : SessionEnd) → reader.passed + length reader.held ≤ total
-      → ((taken : List ℕ) → AreFirst total taken left lines → Begins IsBye total taken left end exchanges) → (given : Option (List ℕ))
-      → IfSome given (λ text. PassesLines total text reader left lines) → IfSome given (λ _. TakesLines IsBye total given left end exchanges)
+      → ((taken : List ℕ) → AreFirst total taken left lines → Begins Ends total taken left end exchanges) → (given : Option (List ℕ))
+      → IfSome given (λ text. PassesLines total text reader left lines) → IfSome given (λ _. TakesLines Ends total given left end exchanges)
   takes_by reader left lines exchanges end within begun None passes = tt
   takes_by reader left lines exchanges end within begun (Some text) passes =
       let up_to = takes_up_to total text reader left lines passes within in
       record { taken = up_to.taken; takes = up_to.takes; within = up_to.within; begun = begun up_to.taken up_to.first }
 
-  module _ (old mid : State) (from before : SourceState) (to sunk : SinkState) (reader : Lines) (served : Served Progresses total old mid from before to sunk reader)
+  module _ (old mid : State) (from before : SourceState) (to sunk : SinkState) (reader : Lines) (served : Served Progresses policy old mid from before to sunk reader)
     where
       is_total : reader.limits.total ≡ total
       is_total = ap (λ limits. limits.total) served.limits
@@ -134,21 +153,23 @@ module _ {State : Type 0} (Progresses : State → List Exchange → State → Ty
           is_line = ap (λ limits. limits.line) served.limits
 
           -- over every source there is a line that has this text
-          some_line : (raw : List ℕ) × IsText asked next.text raw
+          some_line : (raw : List ℕ) × IsText asked next.text raw × (next.http ≡ is_http raw)
           some_line = by asked requests.counts where
-            by : (r : Request) → RequestCounts reader next (Ok (Some r)) → (raw : List ℕ) × IsText r next.text raw
-            by Whole whole = (whole.raw, (omega (arith, whole.short, is_line), whole.text))
-            by Long counts = (replicate (max_request + 1) 0, omega (arith, length-replicate {A = ℕ} (max_request + 1) 0))
+            by : (r : Request) → RequestCounts reader next (Ok (Some r)) → (raw : List ℕ) × IsText r next.text raw × (next.http ≡ is_http raw)
+            by Whole whole = (whole.raw, (omega (arith, whole.short, is_line), whole.text), whole.http)
+            by Long counts = (counts.raw, omega (arith, counts.long, is_line), counts.http)
 
           -- The line has this text, and it was passed behind the others.
           record IsNext (raw : List ℕ) : Type 0 where
             is : IsText asked next.text raw
+            http : next.http ≡ is_http raw
             passes : IfSome from.left (λ text. PassesLines total text next after.left (lines_exchanged served.exchanges ++ raw ∷ []))
 
-          is_next : (raw : List ℕ) (left : Option (List ℕ)) → from.left ≡ left → IsText asked next.text raw
+          is_next : (raw : List ℕ) (left : Option (List ℕ)) → from.left ≡ left → IsText asked next.text raw → next.http ≡ is_http raw
               → IfSome left (λ text. PassesLines total text next after.left (lines_exchanged served.exchanges ++ raw ∷ [])) → IsNext raw
-          is_next raw left e is passes = record {
+          is_next raw left e is http passes = record {
             is = is;
+            http = http;
             passes = subst (λ given. IfSome given (λ text. PassesLines total text next after.left (lines_exchanged served.exchanges ++ raw ∷ []))) (sym e) passes;
           }
 
@@ -168,6 +189,12 @@ module _ {State : Type 0} (Progresses : State → List Exchange → State → Ty
                 each_one : length one_exchange ≤ next.passed
                 each_one = omega (arith, length-append served.exchanges (tells.one ∷ []), served.each, more_passed)
 
+                no_http_one : (policy.guarded && next.http) ≡ false → RepliesToNoHttp policy one_exchange
+                no_http_one passes guarded =
+                    All-append (λ t. is_http t.line ≡ false) served.exchanges (tells.one ∷ []) (served.no_http guarded)
+                    (All-cons (λ t. is_http t.line ≡ false) tells.one [] (ap is_http tells.line ∙ sym line.http
+                    ∙ unguarded policy.guarded next.http guarded passes) (All-nil _))
+
                 sent_one : Sends to replied (text_exchanged served.exchanges ++ tells.one.reply) cut
                 sent_one = Sends-then to sunk replied (text_exchanged served.exchanges) tells.one.reply cut served.sent tells.sent
 
@@ -177,13 +204,14 @@ module _ {State : Type 0} (Progresses : State → List Exchange → State → Ty
                     (sym (lines_more served.exchanges tells.one raw tells.line)) line.passes
 
                 begun_one : (end : SessionEnd) → ((taken : List ℕ) → AreFirst total taken after.left (lines_exchanged one_exchange)
-                    → Begins IsBye total taken after.left end (lines_exchanged one_exchange))
-                    → IfSome from.left (λ _. TakesLines IsBye total from.left after.left end (lines_exchanged one_exchange))
+                    → Begins Ends total taken after.left end (lines_exchanged one_exchange))
+                    → IfSome from.left (λ _. TakesLines Ends total from.left after.left end (lines_exchanged one_exchange))
                 begun_one end begun = takes_by next after.left (lines_exchanged one_exchange) (lines_exchanged one_exchange) end within begun from.left passes_one
 
               -- the line has its whole reply
-              goes_on : TellsOne (λ more. Progresses old more new) served.exchanges raw sunk replied (Ok tt) → Served Progresses total old new from after to replied next
-              goes_on tells = record {
+              goes_on : (policy.guarded && next.http) ≡ false → TellsOne (λ more. Progresses old more new) served.exchanges raw sunk replied (Ok tt)
+                  → Served Progresses policy old new from after to replied next
+              goes_on unseen tells = record {
                 exchanges = served.exchanges ++ tells.one ∷ [];
                 runs = tells.led;
                 limits = requests.limits ∙ served.limits;
@@ -191,6 +219,7 @@ module _ {State : Type 0} (Progresses : State → List Exchange → State → Ty
                 knows_end = requests.ends.knows_end served.knows_end;
                 within = within;
                 each = each_one (Ok tt) tells;
+                no_http = no_http_one (Ok tt) tells unseen;
                 passes = passes_one (Ok tt) tells;
                 sent = rw (text_more served.exchanges tells.one) (sent_one (Ok tt) tells);
                 reads = ReadsFrom-then from before after false served.reads source;
@@ -209,12 +238,13 @@ module _ {State : Type 0} (Progresses : State → List Exchange → State → Ty
                     served.sent.bytes tells.sent.bytes.2;
               }
 
-              ends_cut : (cut : Cut) → TellsOne (λ more. Progresses old more new) served.exchanges raw sunk replied (Err cut)
-                  → ServesOne Progresses IsBye total old new from after to replied next (end_by_answer (Err (reply.Out cut)))
-              ends_cut write.Failed tells = record {
+              ends_cut : (policy.guarded && next.http) ≡ false → (cut : Cut) → TellsOne (λ more. Progresses old more new) served.exchanges raw sunk replied (Err cut)
+                  → ServesOne Progresses IsBye policy old new from after to replied next (end_by_answer (Err (reply.Out cut)))
+              ends_cut unseen write.Failed tells = record {
                 exchanges = one_exchange (Err write.Failed) tells;
                 runs = tells.led;
                 each = omega (arith, each_one (Err write.Failed) tells, within);
+                no_http = no_http_one (Err write.Failed) tells unseen;
                 lines = begun_one (Err write.Failed) tells WriteFault (λ taken first. first);
                 wanted = false;
                 wants = λ e. absurd cc;
@@ -222,10 +252,11 @@ module _ {State : Type 0} (Progresses : State → List Exchange → State → Ty
                 reads = ReadsFrom-then from before after false served.reads source;
                 writes = (sent_one (Err write.Failed) tells).cause;
               }
-              ends_cut (write.OutOfMemory want) tells = record {
+              ends_cut unseen (write.OutOfMemory want) tells = record {
                 exchanges = one_exchange (Err (write.OutOfMemory want)) tells;
                 runs = tells.led;
                 each = omega (arith, each_one (Err (write.OutOfMemory want)) tells, within);
+                no_http = no_http_one (Err (write.OutOfMemory want)) tells unseen;
                 lines = begun_one (Err (write.OutOfMemory want)) tells (OutOfMemory want) (λ taken first. first);
                 wanted = true;
                 wants = λ e. refl;
@@ -236,13 +267,14 @@ module _ {State : Type 0} (Progresses : State → List Exchange → State → Ty
 
               -- the line isn't told, and nothing was sent
               ends_silently : (end : SessionEnd) → ((taken : List ℕ) → AreFirst total taken after.left lines
-                  → Begins IsBye total taken after.left end (lines_exchanged served.exchanges)) → Progresses old served.exchanges new → replied ≡ sunk
+                  → Begins Ends total taken after.left end (lines_exchanged served.exchanges)) → Progresses old served.exchanges new → replied ≡ sunk
                   → is_read_fault end ≡ false → is_write_fault end ≡ false → SendsReplies end false to sunk served.exchanges
-                  → Serves Progresses IsBye total old new from after to replied end
+                  → Serves Progresses IsBye policy old new from after to replied end
               ends_silently end begun runs same no_read no_write sent = record {
                 exchanges = served.exchanges;
                 runs = runs;
                 each = omega (arith, served.each, more_passed, within);
+                no_http = served.no_http;
                 lines = takes_by next after.left lines (lines_exchanged served.exchanges) end within begun from.left line.passes;
                 wanted = false;
                 wants = λ e. absurd cc;
@@ -252,45 +284,60 @@ module _ {State : Type 0} (Progresses : State → List Exchange → State → Ty
               }
 
               -- as the line was answered
-              serves_one : (answer : Result Answered ReplyFault) → AnswersLine (λ more. Progresses old more new) IsBye served.exchanges raw sunk replied answer
-                  → ServesOne Progresses IsBye total old new from after to replied next (end_by_answer answer)
-              serves_one (Ok Replied) answers = goes_on answers
-              serves_one (Ok Bye) answers =
-                  ends_silently Ended (λ taken first. inl (record { bye = raw; is_bye = answers.0; first = first })) answers.1 answers.2
+              serves_one : (policy.guarded && next.http) ≡ false → (answer : Result Answered ReplyFault)
+                  → AnswersLine (λ more. Progresses old more new) IsBye served.exchanges raw sunk replied answer
+                  → ServesOne Progresses IsBye policy old new from after to replied next (end_by_answer answer)
+              serves_one unseen (Ok Replied) answers = goes_on unseen answers
+              serves_one unseen (Ok Bye) answers =
+                  ends_silently Ended (λ taken first. inl (record { bye = raw; is_bye = inl answers.0; first = first })) answers.1 answers.2
                   refl refl served.sent.bytes
-              serves_one (Err (reply.Out cut)) answers = ends_cut cut answers
-              serves_one (Err (reply.OutOfMemory want)) answers =
+              serves_one unseen (Err (reply.Out cut)) answers = ends_cut unseen cut answers
+              serves_one unseen (Err (reply.OutOfMemory want)) answers =
                   ends_silently (OutOfMemory want) (λ taken first. first_without total taken after.left (lines_exchanged served.exchanges) (raw ∷ []) first) answers.0 answers.1
                   refl refl served.sent.bytes
 
-          -- the next line was answered
-          pub serves_next : (new : State) (replied : SinkState) (answer : Result Answered ReplyFault) → ReadsFrom before after false → next.fault ≡ None
-              → ((exchanges : List Exchange) (raw : List ℕ) → IsText asked next.text raw → Progresses old exchanges mid
-              → AnswersLine (λ more. Progresses old more new) IsBye exchanges raw sunk replied answer)
-              → ServesOne Progresses IsBye total old new from after to replied next (end_by_answer answer)
-          serves_next new replied answer source keeps answers = by from.left refl served.passes where
+          -- the line that was passed, where the source tells it
+          next_line : (raw : List ℕ) × IsNext raw
+          next_line = by from.left refl served.passes where
             by : (left : Option (List ℕ)) → from.left ≡ left → IfSome left (λ text. PassesLines total text reader before.left (lines_exchanged served.exchanges))
-                → ServesOne Progresses IsBye total old new from after to replied next (end_by_answer answer)
-            by None exchanges passes =
-                serves_one some_line.0 (is_next some_line.0 None exchanges some_line.1 tt) new replied source keeps answer
-                (answers served.exchanges some_line.0 some_line.1 served.runs)
-            by (Some text) exchanges passes =
+                → (raw : List ℕ) × IsNext raw
+            by None told passes = (some_line.0, is_next some_line.0 None told some_line.1 some_line.2 tt)
+            by (Some text) told passes =
                 let takes = request_exchange (Ok (Some asked)) requests text passes in
                 let is = first_text reader next passes.rest (prepend_known next.held after.left) asked is_line takes in
                 let line = takes_line total text reader before.left (lines_exchanged served.exchanges) passes next after.left asked is_total takes in
-                serves_one (raw_line passes.rest) (is_next (raw_line passes.rest) (Some text) exchanges is line) new replied source keeps answer
-                (answers served.exchanges (raw_line passes.rest) is served.runs)
+                (raw_line passes.rest, is_next (raw_line passes.rest) (Some text) told is takes.http line)
+
+          -- the next line was answered
+          pub serves_next : (new : State) (replied : SinkState) (answer : Result Answered ReplyFault) → ReadsFrom before after false → next.fault ≡ None
+              → (policy.guarded && next.http) ≡ false
+              → ((exchanges : List Exchange) (raw : List ℕ) → IsText asked next.text raw → Progresses old exchanges mid
+              → AnswersLine (λ more. Progresses old more new) IsBye exchanges raw sunk replied answer)
+              → ServesOne Progresses IsBye policy old new from after to replied next (end_by_answer answer)
+          serves_next new replied answer source keeps unseen answers =
+              serves_one next_line.0 next_line.1 new replied source keeps unseen answer
+              (answers served.exchanges next_line.0 next_line.1.is served.runs)
+
+          -- the next line is one of HTTP, and the link is guarded
+          pub serves_http : ReadsFrom before after false → next.fault ≡ None → (policy.guarded && next.http) ≡ true
+              → Serves Progresses IsBye policy old mid from after to sunk Ended
+          serves_http source keeps seen =
+              let both = guards policy.guarded next.http seen in
+              ends_silently next_line.0 next_line.1 mid sunk source keeps Ended
+              (λ taken first. inl (record { bye = next_line.0; is_bye = inr (both.0, sym next_line.1.http ∙ both.1); first = first })) served.runs refl
+              refl refl served.sent.bytes
 
         -- ---- there is no next line
 
         -- all that was told stays, and nothing was sent
-        ends_input : (end : SessionEnd) → IfSome from.left (λ _. TakesLines IsBye total from.left after.left end (lines_exchanged served.exchanges))
+        ends_input : (end : SessionEnd) → IfSome from.left (λ _. TakesLines Ends total from.left after.left end (lines_exchanged served.exchanges))
             → ReadsFrom before after (is_read_fault end) → is_write_fault end ≡ false → SendsReplies end false to sunk served.exchanges
-            → Serves Progresses IsBye total old mid from after to sunk end
+            → Serves Progresses IsBye policy old mid from after to sunk end
         ends_input end lines source no_write sent = record {
           exchanges = served.exchanges;
           runs = served.runs;
           each = omega (arith, served.each, served.within);
+          no_http = served.no_http;
           lines = lines;
           wanted = false;
           wants = λ e. absurd cc;
@@ -300,10 +347,10 @@ module _ {State : Type 0} (Progresses : State → List Exchange → State → Ty
         }
 
         -- the input has ended
-        pub serves_all : Requests reader next before after (Ok None) → ReadsFrom before after false → Serves Progresses IsBye total old mid from after to sunk Ended
+        pub serves_all : Requests reader next before after (Ok None) → ReadsFrom before after false → Serves Progresses IsBye policy old mid from after to sunk Ended
         serves_all requests source = ends_input Ended (by from.left served.passes) source refl served.sent.bytes where
           by : (left : Option (List ℕ)) → IfSome left (λ text. PassesLines total text reader before.left (lines_exchanged served.exchanges))
-              → IfSome left (λ _. TakesLines IsBye total left after.left Ended (lines_exchanged served.exchanges))
+              → IfSome left (λ _. TakesLines Ends total left after.left Ended (lines_exchanged served.exchanges))
           by None passes = tt
           by (Some text) passes =
               let within : reader.passed < total =
@@ -314,10 +361,10 @@ module _ {State : Type 0} (Progresses : State → List Exchange → State → Ty
 
         -- a read failed
         serves_failed : Requests reader next before after (Err line.Read) → ReadsFrom before after true
-            → Serves Progresses IsBye total old mid from after to sunk ReadFault
+            → Serves Progresses IsBye policy old mid from after to sunk ReadFault
         serves_failed requests source = ends_input ReadFault (by from.left served.passes) source refl served.sent.bytes where
           by : (left : Option (List ℕ)) → IfSome left (λ text. PassesLines total text reader before.left (lines_exchanged served.exchanges))
-              → IfSome left (λ _. TakesLines IsBye total left after.left ReadFault (lines_exchanged served.exchanges))
+              → IfSome left (λ _. TakesLines Ends total left after.left ReadFault (lines_exchanged served.exchanges))
           by None passes = tt
           by (Some text) passes =
               let fails = requests.counts in
@@ -337,10 +384,10 @@ module _ {State : Type 0} (Progresses : State → List Exchange → State → Ty
 
         -- as many bytes as the total were taken
         serves_total : Requests reader next before after (Err line.Total) → ReadsFrom before after false
-            → Serves Progresses IsBye total old mid from after to sunk TooLong
+            → Serves Progresses IsBye policy old mid from after to sunk TooLong
         serves_total requests source = ends_input TooLong (by from.left served.passes) source refl served.sent.bytes where
           by : (left : Option (List ℕ)) → IfSome left (λ text. PassesLines total text reader before.left (lines_exchanged served.exchanges))
-              → IfSome left (λ _. TakesLines IsBye total left after.left TooLong (lines_exchanged served.exchanges))
+              → IfSome left (λ _. TakesLines Ends total left after.left TooLong (lines_exchanged served.exchanges))
           by None passes = tt
           by (Some text) passes =
               let reaches = requests.counts in
@@ -373,7 +420,7 @@ module _ {State : Type 0} (Progresses : State → List Exchange → State → Ty
         -- a fault ended the lines
         pub serves_fault : (fault : LineFault) → Requests reader next before after (Err fault)
             → ReadsFrom before after (line_failed {T = Option Request} None (Err fault))
-            → Serves Progresses IsBye total old mid from after to sunk (end_by_input fault)
+            → Serves Progresses IsBye policy old mid from after to sunk (end_by_input fault)
         serves_fault line.Read requests source = serves_failed requests source
         serves_fault line.Total requests source = serves_total requests source
         serves_fault line.TooLong requests source = absurd requests.counts

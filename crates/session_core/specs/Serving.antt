@@ -15,7 +15,8 @@ use Rattle.session_core.specs.declared.end.SessionEnd.TheVariants.{Ended, ReadFa
 use Rattle.session_core.specs.declared.handler.Answered.{Answered}
 use Rattle.session_core.specs.declared.handler.Answered.TheVariants.{Replied, Bye}
 use Rattle.session_core.specs.Lines.{ended_lines, max_request}
-use Rattle.session_core.specs.Links.{Serves}
+use Rattle.session_core.specs.Links.{RepliesToNoHttp, Serves}
+use Rattle.session_core.specs.declared.context.LinkPolicy.{LinkPolicy}
 use Rattle.session_core.specs.Exchanges.{Exchange, lines_exchanged, text_exchanged}
 
 -- In front of each text the bytes are these lines, and an LF ends each of them.
@@ -41,25 +42,26 @@ pub record PassesLines (total : ℕ) (text : List ℕ) (reader : Lines) (left : 
     pub are : AreEnded passed lines ⊎ AreAll total reader passed rest lines
 
 -- Lines that come from a link were replied to on it, each with its whole reply, and the session goes on.
-pub record Served {State : Type 0} (Progresses : State → List Exchange → State → Type 0) (total : ℕ) (old new : State)
+pub record Served {State : Type 0} (Progresses : State → List Exchange → State → Type 0) (policy : LinkPolicy) (old new : State)
     (from after : SourceState) (to replied : SinkState) (reader : Lines) : Type 0 where
   pub exchanges : List Exchange
   pub runs : Progresses old exchanges new
-  pub limits : reader.limits ≡ record { line = max_request; total = total }
+  pub limits : reader.limits ≡ record { line = max_request; total = policy.bytes }
   pub keeps_none : reader.fault ≡ None
   pub knows_end : KnowsEnd reader after
-  pub within : reader.passed + length reader.held ≤ total
+  pub within : reader.passed + length reader.held ≤ policy.bytes
   pub each : length exchanges ≤ reader.passed
-  pub passes : IfSome from.left (λ text. PassesLines total text reader after.left (lines_exchanged exchanges))
+  pub no_http : RepliesToNoHttp policy exchanges
+  pub passes : IfSome from.left (λ text. PassesLines policy.bytes text reader after.left (lines_exchanged exchanges))
   pub sent : Sends {T = Unit {0}} to replied (text_exchanged exchanges) (Ok tt)
   pub reads : ReadsFrom from after false
 
 -- what one more line does: the session goes on, or it ended
-abbrev pub ServesOne : {State : Type 0} → (State → List Exchange → State → Type 0) → (List ℕ → Type 0) → ℕ → State → State
+abbrev pub ServesOne : {State : Type 0} → (State → List Exchange → State → Type 0) → (List ℕ → Type 0) → LinkPolicy → State → State
     → SourceState → SourceState → SinkState → SinkState → Lines → Option SessionEnd → Type 0
-ServesOne Progresses IsBye total old new from after to replied reader None = Served Progresses total old new from after to replied reader
-ServesOne Progresses IsBye total old new from after to replied reader (Some end) =
-    Serves Progresses IsBye total old new from after to replied end
+ServesOne Progresses IsBye policy old new from after to replied reader None = Served Progresses policy old new from after to replied reader
+ServesOne Progresses IsBye policy old new from after to replied reader (Some end) =
+    Serves Progresses IsBye policy old new from after to replied end
 
 -- how a session ends where there is no next line
 abbrev pub end_by_input : LineFault → SessionEnd

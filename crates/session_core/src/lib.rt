@@ -26,7 +26,7 @@ mod short;
 mod window;
 
 pub use answerer::Answerer;
-pub use context::ServeContext;
+pub use context::{LinkPolicy, ServeContext};
 pub use end::SessionEnd;
 pub use fault::ReplyFault;
 pub use laws::{goal_answers_wherever_plain_does, session_runs_stay};

@@ -33,7 +33,7 @@ pub fn serve_operator<T: Store, R: Wait, G, S: Source, K: Sink>(
     requires weights { Match context.now.graph.now T.origin.base }
     requires nothing_pending { operator.old.pending ≡ [] }
     ensures { (last : Kept) × (operator.new ≡ with_none_pending last)
-        × Serves (OperatorRun T.origin) (IsOperatorBye T.origin) context.now.bytes operator.old last
+        × Serves (OperatorRun T.origin) (IsOperatorBye T.origin) context.now.policy operator.old last
         (S.state link.old.from) (S.state link.new.from)
         (K.state link.old.to) (K.state link.new.to) result }
 {
@@ -47,7 +47,7 @@ pub fn serve_operator<T: Store, R: Wait, G, S: Source, K: Sink>(
         context,
         operator,
         link,
-        context.bytes,
+        context.policy,
         &answer,
     );
     operator.drop_pending();

@@ -1,4 +1,4 @@
-ghost use Rattle.std.specs.Prelude.{◌≡◌, ◌<◌, ℕ, [], None};
+ghost use Rattle.std.specs.Prelude.{◌≡◌, ◌<◌, ◌&&◌, [], None};
 ghost use Rattle.session_core.specs.Handlers.{AnswersEach, IsCallableIn};
 ghost use Rattle.line_text.specs.Reading.{begun};
 ghost use Rattle.route_io.specs.Sinks.{SinkState};
@@ -8,6 +8,7 @@ ghost use Rattle.session_core.specs.Links.{Serves};
 ghost use Rattle.session_core.specs.Serving.{Served, ServesOne, end_by_answer, end_by_input};
 
 use crate::SessionEnd;
+use crate::context::LinkPolicy;
 use crate::fault::ReplyFault;
 use crate::handler::{Answered, LineHandler};
 use line_text::{LineFault, LineLimits, Lines, Request};
@@ -18,14 +19,14 @@ use std::alloc::Global;
 const MAX_REQUEST: u32 = 1024;
 
 /// Has a handler answer the lines that come from a link, on it, until one ends the session, the input ends or so many bytes
-/// were taken. `answer` answers one line by its text, without its LF and one CR; that of a line too long for a request
+/// were taken, or, where the link is guarded, a line of HTTP comes. `answer` answers one line by its text, without its LF and one CR; that of a line too long for a request
 /// doesn't count.
 pub(crate) fn serve<C, H, F, S: Source, K: Sink>(
     alloc: Global,
     context: &C,
     handler: &mut H,
     link: &mut Link<S, K>,
-    bytes: u64,
+    policy: LinkPolicy,
     answer: &F,
 ) -> SessionEnd
 where
@@ -35,16 +36,16 @@ where
     requires answers { AnswersEach H.runs H.bye K.state (F.post answer.now) }
     requires ready { H.ready context.now }
     requires begun { H.runs context.now handler.old [] handler.old }
-    ensures { Serves (H.runs context.now) (H.bye context.now) bytes handler.old handler.new
+    ensures { Serves (H.runs context.now) (H.bye context.now) policy handler.old handler.new
         (S.state link.old.from) (S.state link.new.from)
         (K.state link.old.to) (K.state link.new.to) result }
 {
     let limits = LineLimits {
         line: MAX_REQUEST,
-        total: bytes,
+        total: policy.bytes,
     };
     match Lines::new(alloc, limits) {
-        Ok(mut lines) => serve_lines(context, handler, link, &mut lines, answer),
+        Ok(mut lines) => serve_lines(context, handler, link, &mut lines, policy, answer),
         Err(want) => SessionEnd::OutOfMemory(want),
     }
 }
@@ -55,6 +56,7 @@ fn serve_lines<C, H, F, S: Source, K: Sink>(
     handler: &mut H,
     link: &mut Link<S, K>,
     lines: &mut Lines,
+    policy: LinkPolicy,
     answer: &F,
 ) -> SessionEnd
 where
@@ -65,14 +67,14 @@ where
     requires ready { H.ready context.now }
     requires begun { H.runs context.now handler.old [] handler.old }
     requires lines { lines.old
-        ≡ begun (record { line = max_request; total = lines.old.limits.total }) }
-    ensures { Serves (H.runs context.now) (H.bye context.now) lines.old.limits.total
+        ≡ begun (record { line = max_request; total = policy.bytes }) }
+    ensures { Serves (H.runs context.now) (H.bye context.now) policy
         handler.old handler.new
         (S.state link.old.from) (S.state link.new.from)
         (K.state link.old.to) (K.state link.new.to) result }
 {
     'lines: loop {
-        if let Some(end) = serve_line(context, handler, link, lines, answer) {
+        if let Some(end) = serve_line(context, handler, link, lines, policy, answer) {
             return end;
         }
     }
@@ -84,6 +86,7 @@ fn serve_line<C, H, F, S: Source, K: Sink>(
     handler: &mut H,
     link: &mut Link<S, K>,
     lines: &mut Lines,
+    policy: LinkPolicy,
     answer: &F,
 ) -> Option<SessionEnd>
 where
@@ -93,10 +96,10 @@ where
     requires answers { AnswersEach H.runs H.bye K.state (F.post answer.now) }
     requires ready { H.ready context.now }
     requires goes_on { lines.old.fault ≡ None }
-    ensures serves { (total : ℕ) (first : H) (from : SourceState) (to : SinkState)
-        → Served (H.runs context.now) total first handler.old
+    ensures serves { (first : H) (from : SourceState) (to : SinkState)
+        → Served (H.runs context.now) policy first handler.old
         from (S.state link.old.from) to (K.state link.old.to) lines.old
-        → ServesOne (H.runs context.now) (H.bye context.now) total first handler.new
+        → ServesOne (H.runs context.now) (H.bye context.now) policy first handler.new
         from (S.state link.new.from) to (K.state link.new.to) lines.new result }
     ensures takes_some { result ≡ None → lines.old.passed < lines.new.passed }
 {
@@ -105,7 +108,17 @@ where
         Ok(None) => return Some(SessionEnd::Ended),
         Err(fault) => return Some(end_by_input(fault)),
     };
+    if is_warded_off(policy, lines) {
+        return Some(SessionEnd::Ended);
+    }
     end_by_answer(answer(context, handler, kind, lines.text(), &mut link.to))
+}
+
+/// Whether the line ends the link since that is guarded.
+fn is_warded_off(policy: LinkPolicy, lines: &Lines) -> bool
+    ensures { result ≡ (policy.guarded && lines.now.http) }
+{
+    policy.guarded && lines.is_http()
 }
 
 /// How a session ends where there is no next line.

@@ -138,7 +138,7 @@ impl<T: Store> Session<T> {
               origin = T.origin;
               budget = context.now.budget;
             }))
-            context.now.bytes self.old self.new
+            context.now.policy self.old self.new
             (S.state link.old.from) (S.state link.new.from)
             (K.state link.old.to) (K.state link.new.to) result }
     {
@@ -149,7 +149,7 @@ impl<T: Store> Session<T> {
         >, session: &mut Self, kind, text: &[u8], to: &mut K|
             requires { CanSearch (scene_of context.now.graph.now T.origin context.now.budget) }
         { session.answer(context, kind, text, to) };
-        serve(context.alloc, context, self, link, context.bytes, &answer)
+        serve(context.alloc, context, self, link, context.policy, &answer)
     }
 
     /// Answers a line by its text, without its LF and one CR; that of a line too long for a request doesn't count. All

@@ -4,4 +4,3 @@ pub mod PassingLemmas
 pub mod RangeLemmas
 pub mod ShadowLemmas
 pub mod TakingLemmas
-pub mod StairLemmas

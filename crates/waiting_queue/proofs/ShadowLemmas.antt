@@ -17,7 +17,7 @@ use Rattle.list_laws.proofs.OnceLaws.{in_append, pairs_append}
 use Rattle.list_laws.proofs.Pairs.{pairs_cons, pairs_take}
 use Rattle.list_laws.proofs.SetLaws.{gains_by_permutation}
 use Rattle.waiting_item.specs.declared.item.Item.{Item}
-use Rattle.waiting_queue.specs.Shadows.{grounded, second_of, Descends, ExceedsBefore, FallsTo, IsBehind, IsBelowSome, IsDominatedBy, IsHidden, IsLater}
+use Rattle.waiting_queue.specs.Shadows.{grounded, second_of, Descends, ExceedsBefore, FallsTo, IsBehind, IsBelowSome, IsDominatedBy, IsLater}
 use Rattle.waiting_queue.specs.Shadows.{IsRun, IsShadow, Joins, ReachesBefore}
 use Rattle.waiting_queue.proofs.TakingLemmas.{in_push, last_in}
 
@@ -49,11 +49,6 @@ at_most_ungrounded _ _ later below = below
 -- where c comes no later than y, and each component of b but the first is at least c's, c is at most what b is at most
 covers_on : (c b y : List ℕ) → ¬ LexLess y c → AtMost (grounded c) b → AtMost b y → AtMost c y
 covers_on c b y later below k = at_most_ungrounded c y later (AtMost-trans (grounded c) b y below k)
-
--- a cost without its first component is at most itself
-grounded_below : (c : List ℕ) → AtMost (grounded c) c
-grounded_below [] = tt
-grounded_below (x ∷ xs) = (omega arith, AtMost-refl xs)
 
 -- the second component of a cost that is at most another
 pub second_at_most : (a b : List ℕ) → AtMost a b → second_of a ≤ second_of b
@@ -150,19 +145,8 @@ module _ {C : Type 0} (components : C → List ℕ) where
 
   module _ (took : List (Item C)) (shadow : List C) (s : Item C) (is : IsShadow components took shadow)
       (behind : IsLater components took (components s.cost)) (free : ¬ IsDominatedBy components shadow (components s.cost)) (after : List C)
-      (joined : Joins components shadow s.cost after) where
-    -- what none dominates isn't hidden by what comes before it
-    shown : ¬ IsHidden components shadow (components s.cost)
-    shown hidden =
-        let from = is.from hidden.by hidden.contains in
-        let later : ¬ LexLess (components s.cost) (components hidden.by) = rw from.2 at (behind from.0 from.1) in
-        grind (arith, at_most_ungrounded (components hidden.by) (components s.cost) later hidden.at_most, grounded_below (components s.cost))
-
-    -- so it joins
-    joins : (x : C) → Contains after x ↔ ((Contains shadow x × ¬ AtMost (grounded (components s.cost)) (components x)) ⊎ (x ≡ s.cost))
-    joins = elim joined [ inl hidden ↦ absurd (shown hidden) | inr all ↦ all ]
-
-    -- and dominates what it dominates
+      (joins : Joins components shadow s.cost after) where
+    -- the cost joins, and dominates what it dominates
     joined_dominates : (c : List ℕ) → Dominates (components s.cost) c → IsDominatedBy components after c
     joined_dominates c below = record { by = s.cost; contains = (joins s.cost).1 (inr refl); dominates = below }
 
@@ -194,7 +178,7 @@ module _ {C : Type 0} (components : C → List ℕ) where
       → ((x : C) → Contains kept x ↔ (Contains before x × ¬ AtMost (grounded (components c)) (components x)))
       → after ≡ insert kept i c → Joins components before c after
   joins_by_insert before kept after c i without put =
-      inr (λ x. through (gains_by_permutation c kept after (rw put (IsPermutation-insert kept i c)) x) (without x))
+      λ x. through (gains_by_permutation c kept after (rw put (IsPermutation-insert kept i c)) x) (without x)
     where
       through : {A B K E : Type 0} → A ↔ (K ⊎ E) → K ↔ B → A ↔ (B ⊎ E)
       through gains keeps = grind arith
@@ -204,10 +188,10 @@ module _ {C : Type 0} (components : C → List ℕ) where
     pub dominated_behind : IsDominatedBy components shadow c → IsDominatedBy components (drop i shadow) c
     dominated_behind h = grind (arith, split.before, (in_parts shadow i h.by).0 h.contains, second_at_most (components h.by) c h.dominates.at_most)
 
-    -- a cost that doesn't have three components fits behind those that exceed it
-    pub descends_by_insert : (d : C) → components d ≡ c → length c ≢ 3 → Descends components shadow → (after : List C) → after ≡ insert shadow i d
+    -- a cost fits behind those that exceed it
+    pub descends_by_insert : (d : C) → components d ≡ c → Descends components shadow → (after : List C) → after ≡ insert shadow i d
         → Descends components after
-    descends_by_insert d same not_three descends after put = rw put (pairs_between (FallsTo components) (take i shadow) (drop i shadow) d
+    descends_by_insert d same descends after put = rw put (pairs_between (FallsTo components) (take i shadow) (drop i shadow) d
         (pairs_take (FallsTo components) i shadow descends) (pairs_drop (FallsTo components) i shadow descends)
         (λ x z. pairs_parts (FallsTo components) i shadow x z descends)
         (λ x h. grind (arith, split.before)) (λ x h. grind (arith, split.after)))

@@ -97,24 +97,12 @@ module _ {X : Type 0} (spot : X → Spot) (Open : Spot → Type 0) where
     leaves = λ x h. either_on (λ there. (x, there, refl)) (λ gone. gone) (is.leaves x h);
   }
 
-  -- a member that is still there has its spot there
-  pub spots_if_taken : (before took after : List X) → TakesOpen spot Open before took after → TakesOpenSpots spot Open before took after
-  spots_if_taken before took after is = spots_if is.ascending (held_if is) is.stays (apart_if_taken before took after is).leaves
-
   -- only the members of what was there count
   pub takes_alike : (xs ys took left : List X) → SameMembers xs ys → TakesOpen spot Open xs took left → TakesOpen spot Open ys took left
   takes_alike xs ys took left same is = takes_if is.ascending
       (λ x h. let was = held_if is x h in ((same x).0 was.0, was.1, λ z there. was.2 z ((same z).1 there)))
       (λ x h. let was = is.stays x h in ((same x).0 was.0, was.1))
       (λ x h. is.leaves x ((same x).1 h))
-
-  -- the same of spots, and of what stays
-  pub takes_spots_alike : (xs ys took left other : List X) → SameMembers xs ys → SameMembers left other
-      → TakesOpenSpots spot Open xs took left → TakesOpenSpots spot Open ys took other
-  takes_spots_alike xs ys took left other same alike is = spots_if is.ascending
-      (λ x h. let was = (is.taken (spot x)).0 (x, h, refl) in ((same x).0 (is.among x h), was.1, λ z there. was.2 z ((same z).1 there)))
-      (λ x h. let was = is.stays x ((alike x).1 h) in ((same x).0 was.0, was.1))
-      (λ x h. either_on (λ (y, there, at). (y, (alike y).0 there, at)) (λ gone. gone) (is.leaves x ((same x).1 h)))
 
   -- ---- more was seen
 
@@ -162,15 +150,6 @@ module _ {X : Type 0} (spot : X → Spot) (Open : Spot → Type 0) where
         (λ x h. let was = is.stays x h in (in_push seen s x was.0, some_before took (s ∷ []) was.1))
         (each_push seen s (λ x old. either_on (λ there. there) (some_before took (s ∷ [])) (is.leaves x old)) (inr (inl (s, last_in took s, refl))))
 
--- the same behind the same
-pub behind_alike : {X : Type 0} (xs ys zs : List X) → SameMembers ys zs → SameMembers (xs ++ ys) (xs ++ zs)
-behind_alike xs ys zs same x = let alike = same x in let first = in_append xs ys x in let second = in_append xs zs x in grind arith
-
--- where all was one part
-pub spots_alone : {X : Type 0} (spot : X → Spot) (Open : Spot → Type 0) (xs took left late : List X) → late ≡ [] → TakesOpen spot Open xs took left
-    → TakesOpenSpots spot Open xs took (left ++ late)
-spots_alone spot Open xs took left late none is = rw (none, append-nil) (spots_if_taken spot Open xs took left is)
-
 -- ---- parts of a list
 
 module _ {X : Type 0} (spot : X → Spot) (Open : Spot → Type 0) where
@@ -211,10 +190,7 @@ module _ {X Y : Type 0} (spot : Y → Spot) (tell : X → Y) (Open : Spot → Ty
       (each_told _ after (λ x h. let was = is.stays x h in (in_map tell before x was.0, some_told took was.1)))
       (each_told _ before (λ x h. either_on (some_told after) (some_told took) (is.leaves x h)))
 
-  -- those that come are told in any order, with some that were there
-  pub spots_let_in : (items late fresh order took after : List X) → SameMembers (late ++ fresh) order
-      → TakesOpenSpots (λ x. spot (tell x)) Open (items ++ order) took after
+  -- what comes is told behind what was there
+  pub spots_let_in : (items late fresh took after : List X) → TakesOpenSpots (λ x. spot (tell x)) Open (items ++ (late ++ fresh)) took after
       → TakesOpenSpots spot Open (map tell (items ++ late) ++ map tell fresh) (map tell took) (map tell after)
-  spots_let_in items late fresh order took after same is =
-      rw (← map-append, append_assoc) (spots_told _ _ _ (takes_spots_alike _ _ _ _ _ _ _
-      (behind_alike items order (late ++ fresh) (λ x. ((same x).1, (same x).0))) (λ x. (λ h. h, λ h. h)) is))
+  spots_let_in items late fresh took after is = rw (← map-append, append_assoc) (spots_told (items ++ (late ++ fresh)) took after is)

@@ -18,10 +18,6 @@ grounded (x ∷ xs) = 0 ∷ xs
 abbrev pub second_of : List ℕ → ℕ
 second_of c = slice_index c 1
 
--- the third component
-abbrev pub third_of : List ℕ → ℕ
-third_of c = slice_index c 2
-
 -- costs have these components
 module _ {C : Type 0} (components : C → List ℕ) where
   -- some cost of the list dominates c
@@ -36,12 +32,11 @@ module _ {C : Type 0} (components : C → List ℕ) where
     pub contains : Contains costs above
     pub at_most : AtMost c (components above)
 
-  -- b doesn't exceed a in the second component, and under 3 criteria it exceeds a in the third
-  pub record FallsTo (a b : C) : Type 0 where
-    pub second : second_of (components b) ≤ second_of (components a)
-    pub third : length (components a) ≡ 3 → length (components b) ≡ 3 → third_of (components a) < third_of (components b)
+  -- b doesn't exceed a in the second component
+  abbrev pub FallsTo : C → C → Type 0
+  FallsTo a b = second_of (components b) ≤ second_of (components a)
 
-  -- no cost exceeds an earlier one in the second component, and under 3 criteria each exceeds it in the third
+  -- no cost exceeds an earlier one in the second component
   abbrev pub Descends : List C → Type 0
   Descends = AllPairs FallsTo
 
@@ -55,18 +50,9 @@ module _ {C : Type 0} (components : C → List ℕ) where
   ReachesBefore shadow c =
       SplitsAt (λ x. second_of c ≤ second_of (components x)) (λ x. second_of (components x) < second_of c) shadow
 
-  -- A cost of the shadow exceeds c in no component but the first, and some component of it but the first is less than c's.
-  pub record IsHidden (shadow : List C) (c : List ℕ) : Type 0 where
-    pub by : C
-    pub contains : Contains shadow by
-    pub at_most : AtMost (grounded (components by)) c
-    pub less : ¬ AtMost (grounded c) (components by)
-
-  -- c joins the shadow, and those leave of which no component but the first is less than c's. A cost that is hidden by another
-  -- may be left out.
+  -- c joins the shadow, and those leave of which no component but the first is less than c's
   abbrev pub Joins : List C → C → List C → Type 0
-  Joins before c after = IsHidden before (components c)
-      ⊎ ((x : C) → Contains after x ↔ ((Contains before x × ¬ AtMost (grounded (components c)) (components x)) ⊎ (x ≡ c)))
+  Joins before c after = (x : C) → Contains after x ↔ ((Contains before x × ¬ AtMost (grounded (components c)) (components x)) ⊎ (x ≡ c))
 
   -- c comes before no cost of the shadow
   abbrev pub IsBehind : List C → List ℕ → Type 0

@@ -38,24 +38,13 @@ where
         parts,
         pieces: &pieces,
     };
-    let workers = who_marks(workers, D);
+    let workers = workers.with_gate(&OpenGate);
     let lists = run_pieces(&workers, alloc, pieces.len(), Phase::Merge, &marking)?;
     let mut marks = Vec::with_capacity(alloc, all.len())?;
     for list in &lists {
         marks.extend_from_slice(list)?;
     }
     Ok(marks)
-}
-
-/// Who compares what the parts took with their shadows. Under 2 and 3 criteria, where a comparison is a search, one has done so before
-/// threads have started.
-fn who_marks<'w, R, G>(workers: &Workers<'w, R, G>, criteria: usize) -> Workers<'w, R, OpenGate> {
-    let workers = workers.with_gate(&OpenGate);
-    if criteria <= 3 {
-        workers.alone()
-    } else {
-        workers
-    }
 }
 
 /// Cuts a list into at most so many pieces, in order.

@@ -55,22 +55,6 @@ pub(crate) fn count_before<const D: usize, C: StoredCost<D>>(
     count
 }
 
-/// Lists the items of both lists in order. What the list held before is gone.
-pub(crate) fn list_sorted<const D: usize, C: StoredCost<D>>(
-    items: &[Item<C>],
-    others: &[Item<C>],
-    list: &mut Vec<Item<C>>,
-) -> Result<(), OutOfMemory>
-    ensures same { IfOk result (λ _. IsPermutation (items.now ++ others.now) list.new.items) }
-    ensures sorted { IfOk result (λ _. AreSorted (spot_in C.components) list.new.items) }
-{
-    list.clear();
-    list.extend_from_slice(items)?;
-    list.extend_from_slice(others)?;
-    sort_items(list);
-    Ok(())
-}
-
 /// Sorts items. Those that are in order already are only gone through.
 pub(crate) fn sort_items<const D: usize, C: StoredCost<D>>(items: &mut Vec<Item<C>>)
     ensures same { IsPermutation items.old.items items.new.items }

@@ -4,8 +4,6 @@ ghost use Rattle.waiting_queue.specs.Taking.{AreSorted, Counts, TakesOpenSpots};
 ghost use Rattle.waiting_item.specs.Waiting.{AreCriteria, as_waiting, spot_in, spot_of};
 
 use crate::joining::{Part, join_parts, list_rests};
-use crate::order::list_sorted;
-use crate::passing::pass_anew;
 use crate::ranges::{Lists, pass_ranges};
 use crate::sharing::labels_of_spots;
 use crate::{Look, Steps, widen_items};
@@ -21,14 +19,14 @@ use waiting_item::Item;
 use work_claim::Workers;
 
 /// What waits: some of it may be stale, barred or there more than once. Most of it stands in one ascending list, and each call goes
-/// through it once, workers in as many ranges as they are where enough comes in.
+/// through it once, in as many ranges as workers share it.
 #[derive(Drop)]
 pub struct Queue<const D: usize, C: StoredCost<D>> {
     items: Vec<Item<C>>,
     /// What was taken in a range of the list though an item of an earlier range dominates it. It comes in again.
     late: Vec<Item<C>>,
-    /// Room for the items that come in, in order.
-    order: Vec<Item<C>>,
+    /// Room for all that ranges have taken.
+    all: Vec<Item<C>>,
     left: Left<C>,
 }
 
@@ -37,8 +35,7 @@ pub struct Queue<const D: usize, C: StoredCost<D>> {
 struct Left<C> {
     items: Vec<Item<C>>,
     late: Vec<Item<C>>,
-    shadow: Vec<C>,
-    /// Those of a call that workers shared: the next one uses their memory again.
+    /// Those of a call: the next one uses their memory again.
     parts: Vec<Part<C>>,
 }
 
@@ -49,7 +46,6 @@ impl<C> Left<C> {
         Left {
             items: Vec::new(alloc),
             late: Vec::new(alloc),
-            shadow: Vec::new(alloc),
             parts: Vec::new(alloc),
         }
     }
@@ -77,7 +73,7 @@ impl<const D: usize, C: StoredCost<D>> Queue<D, C> {
         Queue {
             items: Vec::new(alloc),
             late: Vec::new(alloc),
-            order: Vec::new(alloc),
+            all: Vec::new(alloc),
             left: Left::new(alloc),
         }
     }
@@ -90,7 +86,7 @@ impl<const D: usize, C: StoredCost<D>> Queue<D, C> {
         Ok(Queue {
             items: widen_items(alloc, &self.items)?,
             late: widen_items(alloc, &self.late)?,
-            order: Vec::new(alloc),
+            all: Vec::new(alloc),
             left: Left::new(alloc),
         })
     }
@@ -124,8 +120,8 @@ where
             late: &self.late,
             fresh,
         };
-        let (order, left) = (&mut self.order, &mut self.left);
-        pass_lists(workers, alloc, look, &lists, order, taken, left)?;
+        let (all, left) = (&mut self.all, &mut self.left);
+        pass_lists(workers, alloc, look, &lists, all, taken, left)?;
         mem::swap(&mut self.items, &mut self.left.items);
         mem::swap(&mut self.late, &mut self.left.late);
         if !taken.as_slice().is_empty() {
@@ -148,7 +144,7 @@ fn pass_lists<
     alloc: Global,
     look: &K,
     lists: &Lists<'_, C>,
-    order: &mut Vec<Item<C>>,
+    all: &mut Vec<Item<C>>,
     taken: &mut Vec<Item<C>>,
     left: &mut Left<C>,
 ) -> Result<(), OutOfMemory>
@@ -160,36 +156,7 @@ where
         (all_of lists.now) taken.new.items (left.new.items.items ++ left.new.late.items)) }
     ensures sorted { IfOk result (λ _. AreSorted (spot_in C.components) left.new.items.items) }
 {
-    if workers.count() == 1 {
-        return pass_alone(look, lists, order, taken, left);
-    }
     pass_ranges(workers, alloc, look, lists, &mut left.parts)?;
-    join_parts(workers, alloc, &left.parts, order, taken, &mut left.late)?;
+    join_parts(workers, alloc, &left.parts, all, taken, &mut left.late)?;
     list_rests(&mut left.parts, &mut left.items)
-}
-
-/// One worker does so in one pass.
-fn pass_alone<const D: usize, C: StoredCost<D>, K: Look<D, C>>(
-    look: &K,
-    lists: &Lists<'_, C>,
-    order: &mut Vec<Item<C>>,
-    taken: &mut Vec<Item<C>>,
-    left: &mut Left<C>,
-) -> Result<(), OutOfMemory>
-    requires criteria { AreCriteria D }
-    requires sorted { AreSorted (spot_in C.components) lists.now.items.now }
-    ensures taken { IfOk result (λ _. TakesOpenSpots (spot_in C.components) (K.IsOpen look.now)
-        (all_of lists.now) taken.new.items (left.new.items.items ++ left.new.late.items)) }
-    ensures sorted { IfOk result (λ _. AreSorted (spot_in C.components) left.new.items.items) }
-{
-    left.late.clear();
-    list_sorted(lists.late, lists.fresh, order)?;
-    pass_anew(
-        look,
-        lists.items,
-        order,
-        &mut left.shadow,
-        taken,
-        &mut left.items,
-    )
 }

@@ -1,5 +1,5 @@
 //! A queue cut into ranges, which workers pass side by side, each with a shadow of its own.
-ghost use Rattle.std.specs.Prelude.{◌≡◌, ◌≤◌, ◌↔◌, length, All, IfOk, IsOk, IsTrue, List, None};
+ghost use Rattle.std.specs.Prelude.{◌≡◌, ◌≤◌, ◌↔◌, length, All, IfOk, IsTrue, List, None};
 ghost use Rattle.waiting_queue.specs.Ranges.{ArePassed, AreRanges, LiesIn, ListsWithin, PassesRange, all_of, others_of};
 ghost use Rattle.waiting_queue.specs.Taking.{AreSorted};
 ghost use Rattle.waiting_item.specs.Waiting.{AreCriteria, spot_in};
@@ -192,11 +192,12 @@ fn is_within<const D: usize, C: StoredCost<D>>(range: &Range<'_, C>, item: &Item
 
 /// Refuses parts for one of which memory didn't suffice.
 fn are_whole<C>(parts: &[Part<C>]) -> Result<(), OutOfMemory>
-    ensures { IsOk result ↔ All (λ p. p.want ≡ None) parts.now }
+    ensures { IfOk result (λ _. All (λ p. p.want ≡ None) parts.now) }
 {
     for part in parts {
-        if let Some(want) = part.want {
-            return Err(want);
+        match part.want {
+            None => {}
+            Some(want) => return Err(want),
         }
     }
     Ok(())

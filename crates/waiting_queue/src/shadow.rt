@@ -1,8 +1,7 @@
-ghost use Rattle.std.specs.Prelude.{◌≡◌, ◌+◌, ◌-◌, ◌<◌, ◌≤◌, ◌↔◌, ◌++◌, drop, length, nat_lt, slice_get, take, vec_len, false, All, Contains, IfNone, IfOk, IfSome, IsTrue, None, Some};
-ghost use Rattle.std.specs.List.{AllWithin};
+ghost use Rattle.std.specs.Prelude.{◌≡◌, ◌+◌, ◌≤◌, ◌↔◌, drop, length, slice_get, take, false, All, Contains, IfNone, IfOk, IfSome, IsTrue, Some};
 ghost use Rattle.cost_vector.specs.Costs.{AtMost, Dominates};
 ghost use Rattle.list_laws.specs.Without.{IsWithout};
-ghost use Rattle.waiting_queue.specs.Shadows.{Descends, ExceedsBefore, ReachesBefore, IsBehind, IsBelowSome, IsDominatedBy, IsRun, Joins, grounded, third_of};
+ghost use Rattle.waiting_queue.specs.Shadows.{Descends, ExceedsBefore, ReachesBefore, IsBehind, IsBelowSome, IsDominatedBy, IsRun, Joins, grounded};
 ghost use Rattle.waiting_item.specs.Waiting.{AreCriteria};
 ghost use Rattle.waiting_item.specs.declared.item.Item.{Item};
 
@@ -78,35 +77,7 @@ fn search_shadowing<'a, const D: usize, C: StoredCost<D>>(
         → ¬ IsDominatedBy C.components shadow.now (C.components cost.now)) }
 {
     let start = count_above(shadow, cost);
-    if D == 3 {
-        first_shadowing(shadow, start, cost)
-    } else {
-        find_dominating(&shadow[start..], cost)
-    }
-}
-
-/// The shadow's cost at this place, if it dominates this one. Under 3 criteria it tells of all later ones too, since their third
-/// components ascend.
-fn first_shadowing<'a, const D: usize, C: StoredCost<D>>(
-    shadow: &'a [C],
-    at: usize,
-    cost: &C,
-) -> Option<&'a C>
-    requires criteria { D ≡ 3 }
-    ensures long { length (C.components cost.now) ≡ 3 }
-    ensures listed { IfSome result (λ c. Contains shadow.now c.now) }
-    ensures dominates { IfSome result (λ c.
-        Dominates (C.components c.now) (C.components cost.now)) }
-    ensures none { IfNone result ((x : C) → slice_get shadow.now at ≡ Some x
-        → (length (C.components x) ≡ 3) × (¬ Dominates (C.components x) (C.components cost.now))) }
-{
-    if is_less_than_at(shadow, at, cost) {
-        return None;
-    }
-    match shadow.get(at) {
-        Some(first) if first.dominates(cost) => Some(first),
-        _ => None,
-    }
+    find_dominating(&shadow[start..], cost)
 }
 
 /// A cost of the shadow that dominates this one. The last that dominated one is tried first: mostly it dominates the next too.
@@ -257,77 +228,8 @@ pub(crate) fn cast<const D: usize, C: StoredCost<D>>(
         shadow.new.items) }
     ensures descends { IfOk result (λ _. Descends C.components shadow.new.items) }
 {
-    if D == 3 {
-        return cast_stair(shadow, cost);
-    }
     uncover(shadow, &floor(cost));
     let place = count_above(shadow, cost);
     shadow.insert(place, *cost)?;
     Ok(())
-}
-
-/// The same under 3 criteria, where the third components ascend: those that leave stand side by side, and the cost takes their place.
-fn cast_stair<const D: usize, C: StoredCost<D>>(
-    shadow: &mut Vec<C>,
-    cost: &C,
-) -> Result<(), OutOfMemory>
-    requires criteria { D ≡ 3 }
-    requires descends { Descends C.components shadow.old.items }
-    ensures joins { IfOk result (λ _. Joins C.components shadow.old.items cost.now
-        shadow.new.items) }
-    ensures descends { IfOk result (λ _. Descends C.components shadow.new.items) }
-{
-    let end = count_up_to(shadow, cost);
-    if !is_less_than_at(shadow, end, cost) {
-        return Ok(());
-    }
-    let start = count_less(shadow, end, cost);
-    cut_out(shadow, start, end);
-    shadow.insert(start, *cost)?;
-    Ok(())
-}
-
-/// Whether the third component is less than that of the shadow's cost at this place, if one is there.
-fn is_less_than_at<const D: usize, C: StoredCost<D>>(shadow: &[C], at: usize, cost: &C) -> bool
-    requires criteria { D ≡ 3 }
-    ensures long { length (C.components cost.now) ≡ 3 }
-    ensures value { IfSome (slice_get shadow.now at) (λ x. (length (C.components x) ≡ 3)
-        × (IsTrue result ↔ third_of (C.components cost.now) < third_of (C.components x))) }
-    ensures none { slice_get shadow.now at ≡ None → IsTrue result }
-{
-    let third = cost.part(2);
-    match shadow.get(at) {
-        Some(next) => third.less_bit(next.part(2)) == 1,
-        None => true,
-    }
-}
-
-/// How many of the shadow's costs before this place are less than this one in the third component. Those that aren't stand last.
-fn count_less<const D: usize, C: StoredCost<D>>(shadow: &[C], end: usize, cost: &C) -> usize
-    requires criteria { D ≡ 3 }
-    requires within { end ≤ length shadow.now }
-    ensures within { result ≤ end }
-    ensures last { 0 < result → (x : C) → slice_get shadow.now (result - 1) ≡ Some x
-        → (length (C.components x) ≡ 3)
-        × (third_of (C.components x) < third_of (C.components cost.now)) }
-    ensures others { AllWithin (λ x. (length (C.components x) ≡ 3)
-        × (third_of (C.components cost.now) ≤ third_of (C.components x))) shadow.now result end }
-{
-    let third = cost.part(2);
-    let mut count = end;
-    while count > 0 && shadow[count - 1].part(2).less_bit(third) == 0 {
-        count -= 1;
-    }
-    count
-}
-
-/// Takes out what stands between two places.
-fn cut_out<C: Copy + Drop>(list: &mut Vec<C>, start: usize, end: usize)
-    requires ascend { start ≤ end }
-    requires within { end ≤ vec_len list.old }
-    ensures { list.new.items ≡ take start list.old.items ++ drop end list.old.items }
-{
-    let count = list.len();
-    list.copy_within(end..count, start);
-    list.truncate(start + (count - end));
 }

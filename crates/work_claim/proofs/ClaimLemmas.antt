@@ -1,6 +1,6 @@
 -- Each step at the counter keeps its rule, and at the end the last seat's list holds each piece once.
-use Rattle.std.proofs.Common.{◌≡◌, ◌≢◌, ℕ, zero, suc, ◌+◌, ◌-◌, ◌%◌, ◌^◌, ◌<◌, ◌≤◌, Bool, true, cond, eqb, ltb, leb, List, [], ◌∷◌, length, get_or, set, map-id, refl, sym, ap, ap₂, ◌∙◌, subst, arith, length-append, append-nil, add-zero, zero-add}
-use Rattle.std.specs.Prelude.{slice_index, Contains, IsPermutation, filter}
+use Rattle.std.proofs.Common.{◌≡◌, ◌≢◌, ℕ, zero, suc, ◌+◌, ◌-◌, ◌%◌, ◌^◌, ◌<◌, ◌≤◌, Bool, true, cond, eqb, ltb, leb, List, [], ◌∷◌, ◌++◌, length, get_or, set, map-id, refl, sym, ap, ap₂, ◌∙◌, subst, arith, length-append, append-nil, add-zero, zero-add}
+use Rattle.std.specs.Prelude.{slice_index, Contains, IsPermutation, filter, flat_map}
 use Rattle.std.specs.List.{sum_by, count_by, range_with_len}
 use Rattle.std.proofs.lemmas.Bool.{eqb-true, lt-ltb, ltb-true, leb-true}
 use Rattle.std.proofs.lemmas.Bool.Decides.{nat_tests}
@@ -13,6 +13,7 @@ use Rattle.std.proofs.lemmas.List.Sums.{sum_by-cons, sum_by_push, sum_by-append,
 use mathlib.Core.Option.{some, some-injective, some-ne-none}
 use lib.ListN.{get_elem?}
 use Rattle.atomic_table.specs.Table.{State, Me, Allows, Splits, Joins, keeps}
+use Rattle.list_laws.specs.Sets.{ListsOnce}
 use Rattle.list_laws.proofs.Members.{in_filter, of_filter}
 use Rattle.list_laws.proofs.OnceLaws.{lists_in_any_order, range_once, taken_out}
 use Rattle.work_claim.specs.Claims.{AddsUp, AreClaims, Claims, Draws, HoldsEachPieceOnce, all_draws, for_nobody, for_one, joined, past, spent, times, unused, with_drawn, without_one}
@@ -109,6 +110,26 @@ permuted (x ∷ xs) ys same =
     IsPermutation-trans (x ∷ xs) (x ∷ zs) ys (IsPermutation-cons x xs zs (permuted xs zs (λ n.
     let weight : ℕ → ℕ = λ z. cond (eqb z n) 1 0 in
     omega (arith, same n, sum_by-cons weight x xs, sum_by-cons weight x zs, sum_by-IsPermutation weight ys (x ∷ zs) out)))) (IsPermutation-sym ys (x ∷ zs) out)
+
+-- what all seats have drawn
+times_of_all : (x : ℕ) (seats : List Draws) → times x (flat_map (λ s. s.numbers) seats) ≡ sum_by (λ s. times x s.numbers) seats
+times_of_all x [] = refl
+times_of_all x (s ∷ others) = omega (arith, sum_by-append (λ y. cond (eqb y x) 1 0) s.numbers (flat_map (λ v. v.numbers) others),
+    sum_by-cons (λ v. times x v.numbers) s others, times_of_all x others)
+
+-- each number below the counter stands there once
+pub shared_out : (pieces workers : ℕ) (words : List ℕ) (seats : List Draws) → AreClaims pieces workers words seats
+    → ListsOnce (λ i. i < slice_index words 0) (flat_map (λ s. s.numbers) seats)
+shared_out pieces workers words seats rule =
+    let n = slice_index words 0 in
+    lists_in_any_order (λ i. i < n) (range_with_len 0 n) (flat_map (λ s. s.numbers) seats)
+    (permuted (range_with_len 0 n) (flat_map (λ s. s.numbers) seats)
+    (λ x. sym (times_of_all x seats ∙ rule.shared (λ v. times x v.numbers) (counts_add (λ y. eqb y x))))) (range_once n)
+
+-- a seat that stands between others
+pub at_place : (before after : List Draws) (s : Draws) → get_elem? (before ++ s ∷ after) (length before) ≡ some s
+at_place [] after s = refl
+at_place (x ∷ xs) after s = at_place xs after s
 
 -- what the last seat has drawn at the end
 pub closed_once : (pieces workers : ℕ) (words : List ℕ) (seats : List Draws) → AreClaims pieces workers words seats → (id : ℕ) (s : Draws)

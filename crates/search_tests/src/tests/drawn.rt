@@ -6,4 +6,5 @@ mod examples;
 mod networks;
 mod searches;
 mod searching;
+mod sharing;
 mod walks;

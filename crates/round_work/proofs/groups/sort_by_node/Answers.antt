@@ -3,10 +3,6 @@ use Rattle.std.proofs.lemmas.List.Sorted.{IsNonDecreasingBy-from_sort_by_key}
 use Rattle.waiting_item.specs.declared.item.Item.{Item}
 use Rattle.round_work.proofs.groups.sort_by_node.Goals as goal
 
-pub returns-then-count-eq1-clause-ascending : goal.returns-then-count-eq1-clause-ascending
-returns-then-count-eq1-clause-ascending g c = λ i j d before within.
-    IsNonDecreasingBy-from_sort_by_key (λ (l : Item g.row.C.Denot). l.node.0) _ c.sort_unstable_by_key.ensures.sorted (λ a r q k. search rules) i j d (omega (arith, before)) within
-
-pub returns-else-count-eq1-clause-ascending : goal.returns-else-count-eq1-clause-ascending
-returns-else-count-eq1-clause-ascending g c = λ i j d before within.
+pub returns-clause-ascending : goal.returns-clause-ascending
+returns-clause-ascending g c = λ i j d before within.
     IsNonDecreasingBy-from_sort_by_key (λ (l : Item g.row.C.Denot). l.node.0) _ c.par_sort_unstable_by_key.ensures.sorted (λ a r q k. search rules) i j d (omega (arith, before)) within

@@ -10,9 +10,9 @@ returns g c =
     let all = c.serve_all.ensures in
     let context = c.args.context.now in
     let first : OperatorLane g.row.T.Denot DoorTally → g.row.D.Denot → OperatorLane g.row.T.Denot DoorTally → g.row.D.Denot → Type 0 =
-    OperatorServesDoor g.D.Door.state g.T.Store.origin context.bytes in
+    OperatorServesDoor g.D.Door.state g.T.Store.origin context.policy in
     let rest : SessionLane g.row.T.Denot DoorTally → g.row.D.Denot → SessionLane g.row.T.Denot DoorTally → g.row.D.Denot → Type 0 =
-    SessionServesDoor g.D.Door.state (record { graph = context.graph.now; origin = g.T.Store.origin; budget = context.budget }) context.bytes in
+    SessionServesDoor g.D.Door.state (record { graph = context.graph.now; origin = g.T.Store.origin; budget = context.budget }) context.policy in
     first_and_all_as _ first _ rest
     (leaves_as _ _ first (λ a b d e said. said))
     (leaves_as _ _ rest (λ a b d e said. said)) all

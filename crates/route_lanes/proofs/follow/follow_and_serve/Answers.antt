@@ -24,5 +24,5 @@ returns-clause-sessions g c =
     let link : Type 0 = Link g.row.S.Denot g.row.K.Denot in
     let lane : Type 0 = SessionLane g.row.T.Denot SessionEnd in
     let rest : lane → link → lane → link → Type 0 =
-    SessionServes (state_of g.S.Source.state g.K.Sink.state) (record { graph = context.graph.now; origin = g.T.Store.origin; budget = context.budget }) context.bytes in
+    SessionServes (state_of g.S.Source.state g.K.Sink.state) (record { graph = context.graph.now; origin = g.T.Store.origin; budget = context.budget }) context.policy in
     all_serve_as _ rest (leaves_as _ _ rest (λ a b d e said. said)) c.lead_beside.ensures.serves

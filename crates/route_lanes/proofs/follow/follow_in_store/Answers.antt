@@ -22,7 +22,7 @@ returns-in-Ok g c =
     let lanes = c.follow_and_serve.new.sessions in
     let before = c.in-Ok.sessions.items in
     let all = c.follow_and_serve.ensures in
-    let serves : SessionLane g.row.T.Denot SessionEnd → _ → SessionLane g.row.T.Denot SessionEnd → _ → Type 0 = SessionServes show scene context.bytes in
+    let serves : SessionLane g.row.T.Denot SessionEnd → _ → SessionLane g.row.T.Denot SessionEnd → _ → Type 0 = SessionServes show scene context.policy in
     let count = as_many_parties serves all.sessions ∙ c.deref_mut.ensures.len in
     let back = written_back lanes before c.in-Ok.sessions.len count in
     let whole = whole_of one.store in
@@ -30,7 +30,7 @@ returns-in-Ok g c =
     let seen : List (SessionLane g.row.T.Denot SessionEnd) → Type 0 = λ xs. All (λ (x : SessionLane g.row.T.Denot SessionEnd). IsPrefix x.session.seen whole) xs in
     ok_with c.report_follow.result _ _
     (λ report shown begins.
-    runs_follow g.F.Source.state show context.graph.now o context.budget context.bytes _ one _ _ _ lanes _ _ report c.args.weights c.args.first
+    runs_follow g.F.Source.state show context.graph.now o context.budget context.policy _ one _ _ _ lanes _ _ report c.args.weights c.args.first
     (sym c.requires.first) (sym c.requires.base) all.follower all.sessions
     (shown ∙ ap (λ (xs : List (SessionLane g.row.T.Denot SessionEnd)). record { feeds = one.end.items; lanes = map (report_of last) xs }) back)
     (subst seen back begins))

@@ -13,9 +13,9 @@ returns g c =
     let context = c.args.context.now in
     let link = Link g.row.S.Denot g.row.K.Denot in
     let first : OperatorLane g.row.T.Denot SessionEnd → link → OperatorLane g.row.T.Denot SessionEnd → link → Type 0 =
-    OperatorServes (state_of g.S.Source.state g.K.Sink.state) g.T.Store.origin context.bytes in
+    OperatorServes (state_of g.S.Source.state g.K.Sink.state) g.T.Store.origin context.policy in
     let rest : SessionLane g.row.T.Denot SessionEnd → link → SessionLane g.row.T.Denot SessionEnd → link → Type 0 =
-    SessionServes (state_of g.S.Source.state g.K.Sink.state) (record { graph = context.graph.now; origin = g.T.Store.origin; budget = context.budget }) context.bytes in
+    SessionServes (state_of g.S.Source.state g.K.Sink.state) (record { graph = context.graph.now; origin = g.T.Store.origin; budget = context.budget }) context.policy in
     first_and_all_as _ first _ rest
     (leaves_as _ _ first (λ a b d e said. said))
     (leaves_as _ _ rest (λ a b d e said. said)) all

@@ -23,7 +23,7 @@ returns-in-Ok g c =
     let lanes = c.serve_links.new.sessions in
     let before = c.in-Ok.sessions.items in
     let all = c.serve_links.ensures in
-    let serves : SessionLane g.row.T.Denot SessionEnd → _ → SessionLane g.row.T.Denot SessionEnd → _ → Type 0 = SessionServes show scene context.bytes in
+    let serves : SessionLane g.row.T.Denot SessionEnd → _ → SessionLane g.row.T.Denot SessionEnd → _ → Type 0 = SessionServes show scene context.policy in
     let count = as_many_parties serves all.served ∙ c.deref_mut.ensures.len in
     let back = written_back lanes before c.in-Ok.sessions.len count in
     let whole = whole_of one.store in
@@ -32,7 +32,7 @@ returns-in-Ok g c =
     let first : LaneReport = record { end = one.end; last = last; numbers = [] } in
     ok_with c.report_lanes.result _ _
     (λ reports exchanges begins.
-    runs_lanes show context.graph.now o context.budget context.bytes _ one _ lanes _ _ reports.items c.args.weights c.args.first
+    runs_lanes show context.graph.now o context.budget context.policy _ one _ lanes _ _ reports.items c.args.weights c.args.first
     (sym c.requires.first) (sym c.requires.base) all
     (exchanges ∙ ap (λ (xs : List (SessionLane g.row.T.Denot SessionEnd)). first ∷ map (report_of last) xs) back)
     (subst seen back begins))

@@ -10,5 +10,5 @@ returns-in_err-put_ready g c =
 pub returns : goal.returns
 returns g c =
     let asked = c.args.asked.now in
-    let lanes = rw (c.requires.budget, c.requires.bytes) at c.serve_lanes.ensures in
+    let lanes = rw (c.requires.budget, c.requires.policy) at c.serve_lanes.ensures in
     rw c.end_of.ensures (serves_over asked c.args.context.now.graph.now c.args.weights c.requires.weights _ _ _ _ _ (rw c.get-lanes.ensures.value at c.in_ok-put_ready.ensures) lanes)

@@ -5,7 +5,7 @@ use road_network::MAX_BUDGET;
 use route_io::memory::{MemorySink, MemorySource};
 use route_io::{Failed, Link, OpenGate, Source};
 use route_lanes::{LaneReport, run_lanes};
-use session_core::{ServeContext, SessionEnd};
+use session_core::{LinkPolicy, ServeContext, SessionEnd};
 use std::alloc::{AllocError, Global};
 use std::process::Abort;
 use std::str::from_utf8;
@@ -142,7 +142,10 @@ fn serve<R: Threads + Wait + Clock + Sync + Abort>(
         alloc,
         graph: &graph,
         budget: history.budget,
-        bytes: u64::MAX,
+        policy: LinkPolicy {
+            bytes: u64::MAX,
+            guarded: false,
+        },
     };
     Ok(run_lanes(&context, weights, history.first, links)?)
 }

@@ -4,7 +4,7 @@ use crate::tests::stores::six_arcs;
 use route_io::memory::{MemorySink, MemorySource};
 use route_io::{Link, OpenGate};
 use route_lanes::{Served, run_lanes, serve_lanes};
-use session_core::{ServeContext, SessionEnd};
+use session_core::{LinkPolicy, ServeContext, SessionEnd};
 use std::alloc::{AllocError, Global};
 use std::process::Abort;
 use std::sync::Wait;
@@ -155,7 +155,10 @@ fn serve<R: Threads + Wait + Clock + Sync + Abort>(
         alloc,
         graph: &graph,
         budget: 100,
-        bytes: u64::MAX,
+        policy: LinkPolicy {
+            bytes: u64::MAX,
+            guarded: false,
+        },
     };
     let reports = run_lanes(&context, weights, 0, links)?;
     for report in &reports {
@@ -207,7 +210,10 @@ fn serve_doors<R: Threads + Wait + Clock + Sync + Abort>(
         alloc,
         graph: &graph,
         budget: 100,
-        bytes: u64::MAX,
+        policy: LinkPolicy {
+            bytes: u64::MAX,
+            guarded: false,
+        },
     };
     let served = serve_lanes(&context, weights, 0, doors)?;
     let wanted = Served {

@@ -9,7 +9,7 @@ use link_doors::{HostDoor, HostTown, Town};
 use out_of_memory::OutOfMemory;
 use route_io::{Gate, OpenGate};
 use route_lanes::{Served, serve_lanes};
-use session_core::ServeContext;
+use session_core::{LinkPolicy, ServeContext};
 use std::alloc::Global;
 use std::fs::Files;
 use std::io::{Read, Write};
@@ -118,7 +118,10 @@ fn links_over_tcp_are_served(rt: HostRuntime) -> Result<(), Fail> {
         alloc: rt.alloc(),
         graph: &graph,
         budget: 100,
-        bytes: u64::MAX,
+        policy: LinkPolicy {
+            bytes: u64::MAX,
+            guarded: false,
+        },
     };
     let (served, replied) = serve_visits(&rt, &context, weights, &mut doors, addresses);
     let wanted = Served {

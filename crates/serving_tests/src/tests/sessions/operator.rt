@@ -7,7 +7,7 @@ use arc_graph::{Change, Weights};
 use cost_vector::Weight;
 use epoch_store::{ChangeSet, Chronicle, Operator, Store, make};
 use route_io::{MemoryLink, OpenGate};
-use session_core::{ServeContext, SessionEnd, serve_operator};
+use session_core::{LinkPolicy, ServeContext, SessionEnd, serve_operator};
 use std::alloc::{AllocError, Global};
 use std::marker::Brand;
 use std::process::Abort;
@@ -25,6 +25,8 @@ struct Row<'r> {
     first: u32,
     /// The most bytes that are taken.
     bytes: u64,
+    /// Whether a line of HTTP ends the link.
+    guarded: bool,
     replies: &'r str,
     end: SessionEnd,
     /// The number of the last epoch.
@@ -37,6 +39,7 @@ fn ended<'r>(replies: &'r str, last: u32, published: &'r [Published]) -> Row<'r>
     Row {
         first: 0,
         bytes: u64::MAX,
+        guarded: false,
         replies,
         end: SessionEnd::Ended,
         last,
@@ -212,6 +215,41 @@ fn a_failed_write_ends_a_link(rt: HostRuntime) -> Result<(), Fail> {
     serve_row(&rt, rt.alloc(), &feed, &row)
 }
 
+/// What a web page can have sent.
+const PAGE: &str =
+    "POST / HTTP/1.1\r\nHost: 127.0.0.1:7002\r\nOrigin: null\r\n\r\nx 3\npublish\nbye\n";
+
+fn serve_page<R: Wait + Abort>(rt: &R, alloc: Global) -> Result<(), Fail> {
+    let guarded = Row {
+        guarded: true,
+        ..ended("", 0, &[])
+    };
+    serve_row(rt, alloc, &whole(PAGE), &guarded)?;
+    serve_row(rt, alloc, &in_pieces(PAGE, 1, 1), &guarded)?;
+    let replies = "x line\nx line\nx line\nok\nk 1\n";
+    serve_row(rt, alloc, &whole(PAGE), &ended(replies, 1, &[(1, 3, None)]))
+}
+
+#[test]
+fn a_page_has_no_line_obeyed_over_a_guarded_link(rt: HostRuntime) -> Result<(), Fail> {
+    serve_page(&rt, rt.alloc())
+}
+
+/// What is pending when a line of HTTP comes is dropped, and what was published stays.
+fn serve_pending<R: Wait + Abort>(rt: &R, alloc: Global) -> Result<(), Fail> {
+    let guarded = Row {
+        guarded: true,
+        ..ended("ok\nk 1\nok\n", 1, &[(1, 3, None)])
+    };
+    let text = "x 3\npublish\nx 1\nGET / HTTP/1.1\r\npublish\n";
+    serve_row(rt, alloc, &whole(text), &guarded)
+}
+
+#[test]
+fn a_line_of_http_drops_what_is_pending(rt: HostRuntime) -> Result<(), Fail> {
+    serve_pending(&rt, rt.alloc())
+}
+
 /// The most bytes that are taken of two lines, what is replied, the last epoch, and how the link ends.
 const TAKEN: &[(u64, &str, u32, SessionEnd)] = &[
     (17, "k 1\nok\n", 1, SessionEnd::Ended),
@@ -267,7 +305,10 @@ fn serve_row<R: Wait + Abort>(
         alloc,
         graph: &graph,
         budget: 0,
-        bytes: row.bytes,
+        policy: LinkPolicy {
+            bytes: row.bytes,
+            guarded: row.guarded,
+        },
     };
     operate::<Brand, R>(&context, Chronicle::default(), weights, link, row)
 }

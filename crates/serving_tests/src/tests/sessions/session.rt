@@ -8,7 +8,7 @@ use epoch_store::{Chronicle, EpochReader, Operator, Store, make};
 use road_network::MAX_BUDGET;
 use route_io::memory::{MemorySink, MemorySource};
 use route_io::{Failed, Link, MemoryLink, OpenGate, Sink, Source};
-use session_core::{ServeContext, Session, SessionEnd};
+use session_core::{LinkPolicy, ServeContext, Session, SessionEnd};
 use std::alloc::Global;
 use std::marker::Brand;
 use std::process::Abort;
@@ -32,6 +32,8 @@ struct Row<'r> {
     budget: u32,
     /// The most bytes that are taken.
     bytes: u64,
+    /// Whether a line of HTTP ends the link.
+    guarded: bool,
     /// The read before which an epoch is published, from 0.
     publishes_at: u32,
     /// What becomes of the store before.
@@ -47,6 +49,7 @@ fn ended<'r>(replies: &'r str, numbers: &'r [u32]) -> Row<'r> {
     Row {
         budget: 10_000_000,
         bytes: u64::MAX,
+        guarded: false,
         publishes_at: u32::MAX,
         before: Before::Stays,
         replies,
@@ -155,6 +158,78 @@ fn serve_long<R: Threads + Wait + Clock + Sync + Abort>(rt: &R, alloc: Global) -
 #[test]
 fn a_line_has_at_most_1024_bytes(rt: HostRuntime) -> Result<(), Fail> {
     serve_long(&rt, rt.alloc())
+}
+
+/// What is sent over a guarded link, what is replied, and the numbers that are named.
+const GUARDED: &[(&str, &str, &[u32])] = &[
+    ("GET / HTTP/1.1\r\ne\n", "", &[]),
+    ("e\nGET /\tHTTP/1.0 \t\r\ne\n", "k 0\n", &[0]),
+    ("e\nHTTP/\ne\n", "k 0\n", &[0]),
+    ("e\nGET / HTTP/2", "k 0\n", &[0]),
+    ("HTTP/1.1 200 OK\ne\n", "x line\nk 0\n", &[0]),
+    ("GET / HTTP/1.1 x\r\r\ne\n", "x line\nk 0\n", &[0]),
+    ("GET / HTTP/1.1 \r\r\ne\n", "x line\nk 0\n", &[0]),
+    (
+        "GET /HTTP/1.1\nHTTP\nhttp/1.1\nHTHTTP/\ne\n",
+        "x line\nx line\nx line\nx line\nk 0\n",
+        &[0],
+    ),
+    ("e\nbye\nGET / HTTP/1.1\n", "k 0\n", &[0]),
+];
+
+/// Each row, in pieces of each size; and without a guard each line has its reply.
+fn serve_guarded<R: Threads + Wait + Clock + Sync + Abort>(
+    rt: &R,
+    alloc: Global,
+) -> Result<(), Fail> {
+    for &(text, replies, numbers) in GUARDED {
+        let row = Row {
+            guarded: true,
+            ..ended(replies, numbers)
+        };
+        for piece in 1..text.len() + 1 {
+            serve_row(rt, alloc, &in_pieces(text, piece, usize::MAX), &row)?;
+        }
+    }
+    let row = ended("x line\nk 0\n", &[0]);
+    serve_row(rt, alloc, &whole("GET / HTTP/1.1\r\ne\n"), &row)
+}
+
+#[test]
+fn a_line_of_http_ends_a_guarded_link(rt: HostRuntime) -> Result<(), Fail> {
+    serve_guarded(&rt, rt.alloc())
+}
+
+/// Lines that are too long for a request, of which the second is one of HTTP.
+const LONG_HTTP: &[LongLine] = &[
+    ("HTTP/1.1 ", b'x', 1500, "\n"),
+    ("GET /", b'x', 1500, " HTTP/1.1\r\n"),
+    ("e", b' ', 1, "\n"),
+];
+
+fn serve_long_http<R: Threads + Wait + Clock + Sync + Abort>(
+    rt: &R,
+    alloc: Global,
+) -> Result<(), Fail> {
+    let text = text_of(alloc, LONG_HTTP)?;
+    let guarded = Row {
+        guarded: true,
+        ..ended("x line\n", &[])
+    };
+    for piece in [1, 7, 1024, 1025, 1506, 1507, 1508, 1511, 5000] {
+        let feed = Feed {
+            text: &text,
+            ..in_pieces("", piece, usize::MAX)
+        };
+        serve_row(rt, alloc, &feed, &guarded)?;
+        serve_row(rt, alloc, &feed, &ended("x line\nx line\nk 0\n", &[0]))?;
+    }
+    Ok(())
+}
+
+#[test]
+fn a_long_line_of_http_ends_a_guarded_link(rt: HostRuntime) -> Result<(), Fail> {
+    serve_long_http(&rt, rt.alloc())
 }
 
 /// The most bytes that are taken of three lines, what is replied, the numbers that are named, and how the link ends.
@@ -362,7 +437,10 @@ fn serve<S: Store, R: Threads + Wait + Clock + Sync + Abort, F: Source>(
         alloc,
         graph,
         budget: row.budget,
-        bytes: row.bytes,
+        policy: LinkPolicy {
+            bytes: row.bytes,
+            guarded: row.guarded,
+        },
     };
     let end = session.serve(&context, link);
     assert!(rt;

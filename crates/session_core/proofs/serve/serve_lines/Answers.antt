@@ -6,10 +6,10 @@ pub lines-init : goal.lines-init
 lines-init g c = served_begun _ _ _ _ _ _ c.requires.lines c.requires.begun
 
 pub lines-preserved : goal.lines-preserved
-lines-preserved g c = c.in_default.ensures.serves _ _ _ _ c.lines.invariant
+lines-preserved g c = c.in_default.ensures.serves _ _ _ c.lines.invariant
 
 pub returns-in-Some : goal.returns-in-Some
-returns-in-Some g c = c.in-Some.ensures.serves _ _ _ _ c.lines.invariant
+returns-in-Some g c = c.in-Some.ensures.serves _ _ _ c.lines.invariant
 
 pub lines-smaller : goal.lines-smaller
 lines-smaller g c =

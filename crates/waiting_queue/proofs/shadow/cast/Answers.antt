@@ -1,4 +1,4 @@
-use Rattle.std.proofs.Common.{refl, sym, ◌∙◌}
+use Rattle.std.proofs.Common.{refl}
 use Rattle.waiting_queue.proofs.ShadowLemmas.{descends_by_insert, joins_by_insert, loses_by_without}
 use Rattle.waiting_queue.proofs.shadow.cast.Goals as goal
 
@@ -8,6 +8,6 @@ returns g c =
       joins = joins_by_insert f c.args.shadow.now.items c.uncover.new.shadow.items _ c.args.cost.now c.count_above-place.result
           (loses_by_without _ _ _ (rw c.floor.ensures.value at c.uncover.ensures.without)) c.in_ok-insert.ensures.items;
       descends = descends_by_insert f c.uncover.new.shadow.items (f c.args.cost.now) c.count_above-place.result
-          (rw c.deref.ensures.value at c.count_above-place.ensures) c.args.cost.now refl (λ three. c.if-this-eq3.false (sym c.floor.ensures.long ∙ three))
+          (rw c.deref.ensures.value at c.count_above-place.ensures) c.args.cost.now refl
           c.uncover.ensures.descends _ c.in_ok-insert.ensures.items;
     }

@@ -15,26 +15,26 @@ loop-request-preserved g c =
     let lacks = rw c.in-Ok-None.field-0-is at c.in-Ok-None.ensures in
     let part = rw lacks.same at lacks.part in
     record {
-      cuts = cuts_more _ _ _ _ _ _ _ _ _ _ _ c.loop-request.invariant.cuts lacks c.skip_long-cut.ensures.long c.skip_long-cut.ensures.skipped
+      cuts = cuts_more _ _ _ _ _ _ _ _ _ _ _ c.loop-request.invariant.cuts lacks c.skip_long-skipped.ensures.long c.skip_long-skipped.ensures.skipped c.skip_long-skipped.ensures.shows
           c.refill_within.ensures.stays c.refill_within.ensures.none_past c.refill_within.ensures.reads;
-      none = rw c.held-searched.ensures (searched_none _ _ _ _ _ _ _ _ _ _ _ c.loop-request.invariant.cuts lacks c.skip_long-cut.ensures.long
-          c.skip_long-cut.ensures.skipped c.refill_within.ensures.stays c.refill_within.ensures.none_past c.refill_within.ensures.reads);
-      counted = λ long. rw c.refill_within.ensures.stays (c.skip_long-cut.ensures.counted long);
+      none = rw c.held-searched.ensures (searched_none _ _ _ _ _ _ _ _ _ _ _ c.loop-request.invariant.cuts lacks c.skip_long-skipped.ensures.long
+          c.skip_long-skipped.ensures.skipped c.skip_long-skipped.ensures.shows c.refill_within.ensures.stays c.refill_within.ensures.none_past c.refill_within.ensures.reads);
+      counted = λ long. rw c.refill_within.ensures.stays (c.skip_long-skipped.ensures.counted long);
       held_first = λ held. absurd (omega (arith, (c.loop-request.invariant.held_first held).0, part));
-      at_end = λ end. (c.refill_within.ensures.at_end (skipped_ended _ _ _ _ _ _ _ _ _ _ _ c.loop-request.invariant.cuts lacks c.skip_long-cut.ensures.long
-          c.skip_long-cut.ensures.skipped c.refill_within.ensures.stays c.refill_within.ensures.none_past c.refill_within.ensures.reads end)).0 ∙ c.loop-request.invariant.at_end end;
+      at_end = λ end. (c.refill_within.ensures.at_end (skipped_ended _ _ _ _ _ _ _ _ _ _ _ c.loop-request.invariant.cuts lacks c.skip_long-skipped.ensures.long
+          c.skip_long-skipped.ensures.skipped c.skip_long-skipped.ensures.shows c.refill_within.ensures.stays c.refill_within.ensures.none_past c.refill_within.ensures.reads end)).0 ∙ c.loop-request.invariant.at_end end;
       source = ReadsFrom-then _ _ _ _ c.loop-request.invariant.source c.in-Ok-true.ensures.reads.source;
     }
 
 pub returns-in-Ok-false-clause-requests : goal.returns-in-Ok-false-clause-requests
 returns-in-Ok-false-clause-requests g c =
     let lacks = rw c.in-Ok-None.field-0-is at c.in-Ok-None.ensures in
-    requests_last _ _ _ _ _ _ _ _ _ _ _ c.loop-request.invariant.cuts lacks c.skip_long-cut.ensures.long c.skip_long-cut.ensures.skipped
+    requests_last _ _ _ _ _ _ _ _ _ _ _ c.loop-request.invariant.cuts lacks c.skip_long-skipped.ensures.long c.skip_long-skipped.ensures.skipped c.skip_long-skipped.ensures.shows
     c.refill_within.ensures.stays c.refill_within.ensures.none_past c.refill_within.ensures.reads _ _ c.take_last.ensures
     (c.in-Ok-false.is ∙ ap Ok c.in-Ok-false.field-0-test)
 
 pub returns-in-Err-refill_within-clause-requests : goal.returns-in-Err-refill_within-clause-requests
 returns-in-Err-refill_within-clause-requests g c =
     let lacks = rw c.in-Ok-None.field-0-is at c.in-Ok-None.ensures in
-    requests_failed _ _ _ _ _ _ _ _ _ _ _ c.loop-request.invariant.cuts lacks c.skip_long-cut.ensures.long c.skip_long-cut.ensures.skipped
+    requests_failed _ _ _ _ _ _ _ _ _ _ _ c.loop-request.invariant.cuts lacks c.skip_long-skipped.ensures.long c.skip_long-skipped.ensures.skipped c.skip_long-skipped.ensures.shows
     c.refill_within.ensures.stays c.refill_within.ensures.none_past c.refill_within.ensures.reads _ c.in-Err-refill_within.is

@@ -69,9 +69,13 @@ fn write_published<R: Wait, G, S: Source, K: Sink, O: Sink, T: Store>(
 {
     match serve_operator(context, operator, link) {
         SessionEnd::OutOfMemory(want) => Err(ReplyFault::OutOfMemory(want)),
-        _ => match put_feed(out, operator, context.graph) {
-            Ok(()) => Ok(()),
-            Err(fault) => Err(ReplyFault::Out(fault)),
-        },
+        _ => {
+            let _nodes = context.graph.nodes(); // a proof knows what every graph keeps
+            let _number = operator.number(); // and every operator
+            match put_feed(out, operator, context.graph) {
+                Ok(()) => Ok(()),
+                Err(fault) => Err(ReplyFault::Out(fault)),
+            }
+        }
     }
 }

@@ -15,13 +15,8 @@ use Rattle.session_core.specs.Links.{Serves, is_starved}
 use Rattle.session_core.specs.Operators.{IsOperatorBye, OperatorRun}
 
 -- A link of an operator was served from nothing published on, and memory didn't run out in it; the feed of all that it left
-<<<<<<< HEAD
 -- published, within the limits of the store, was sent with this result.
-pub record IsFeedWritten (graph : Graph) (o : Origin) (bytes : ℕ) (before after : LinkState) (out sent : SinkState)
-=======
--- published was sent with this result.
 pub record IsFeedWritten (graph : Graph) (o : Origin) (policy : LinkPolicy) (before after : LinkState) (out sent : SinkState)
->>>>>>> 37cd03129ba4477e584cb1bd8ecfdf92674a093b
     (result : Result (Unit {0}) WriteFault) : Type 0 where
   pub is_graph : IsGraph graph
   pub left : Operator

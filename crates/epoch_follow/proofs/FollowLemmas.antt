@@ -8,7 +8,7 @@ use mathlib.Core.List.{IsPrefix}
 use Rattle.list_laws.proofs.Members.{cases_push, in_first, in_none}
 use Rattle.arc_graph.specs.declared.change.Change.{Change}
 use Rattle.arc_graph.specs.Graph.{Graph, IsGraph}
-use Rattle.arc_graph.specs.History.{History, IsChange, IsPublished, sets, sets_of}
+use Rattle.arc_graph.specs.History.{History, IsChange, IsPublished, ends_closed, sets, sets_of}
 use Rattle.line_text.specs.Lines.{lines_ended, lines_of}
 use Rattle.line_text.proofs.WrittenLineLemmas.{IsLineText, lines_of-line}
 use Rattle.epoch_follow.specs.declared.feed_end.FeedEnd.{FeedEnd}
@@ -20,9 +20,11 @@ use Rattle.epoch_follow.specs.Runs.Step.{GoesOn, Ends}
 use Rattle.epoch_follow.specs.Takes.{RunsTo, TakesBytes, TakesFeed, feed_starved, is_read}
 use Rattle.epoch_follow.specs.Text.{FeedHead, feed_text, head_of, messages}
 use Rattle.epoch_follow.proofs.BrokenLemmas.{BreaksOff, breaks_off, cut, fewer, more, nothing}
-use Rattle.epoch_follow.proofs.LeaderLemmas.{Carries, all_changes, carries_others, epoch_counts, few_changes, message_keeps, sets_grow}
+use Rattle.epoch_follow.proofs.LeaderLemmas.{Carries, all_changes, all_of, carries_others, epoch_counts, few_changes, message_keeps, sets_grow}
 use Rattle.epoch_follow.proofs.OnWayLemmas.{AtEnd, any_step, by_step, run_grows}
+use Rattle.epoch_follow.proofs.RefusalLemmas.{never_long}
 use Rattle.epoch_follow.proofs.RunLemmas.{behind, run_ends, run_goes}
+use Rattle.epoch_store.proofs.PrefixLemmas.{prefix_self}
 use Rattle.epoch_follow.proofs.TrueLineLemmas.{Fares, IsOn, fares_on, fares_within_limits}
 use Rattle.epoch_follow.proofs.WrittenLemmas.{IsHead, begin_written, change_says, change_words, end_words, end_written, ended, head_is, head_words, head_written, message_words, messages_are, messages_words}
 
@@ -207,6 +209,20 @@ module _ (head : FeedHead) (leader : History) (is : IsHead head) (published : Is
       let on = on_first 1 j one ordered there (Unit {0}) old (λ _. omega arith) in
       let arrives = run_arrives j total (length bytes) (begun old) (feed_words 1 j one ordered there) begins on in
       subst (Arrives j) (sym (ap (run_lines head total (length bytes) (begun old)) whole)) arrives
+
+  -- a whole feed of all sets brings all of a history that isn't closed
+  pub feed_brings_all : (total : ℕ) (old : History) → length (feed_text head leader 1 (sets leader)) ≤ total → IsPrefix old leader
+      → ends_closed leader ≡ false → (feed_run head total old (feed_text head leader 1 (sets leader))).history ≡ leader
+  feed_brings_all total old short begins unclosed =
+      let text = feed_text head leader 1 (sets leader) in
+      by (run_comes (sets leader) total old text (omega arith) refl begins) where
+        by : Arrives (sets leader) (feed_run head total old (feed_text head leader 1 (sets leader)))
+            → (feed_run head total old (feed_text head leader 1 (sets leader))).history ≡ leader
+        by (inl long) = absurd (never_long head total old (feed_text head leader 1 (sets leader)) short long)
+        by (inr came) = all_of (feed_run head total old (feed_text head leader 1 (sets leader))).history leader
+            (run_follows 1 (sets leader) (omega arith) (omega arith) (omega arith) total old (feed_text head leader 1 (sets leader))
+            (prefix_self (feed_text head leader 1 (sets leader))) begins)
+            came.1 unclosed
 
   -- a feed that came whole was taken whole
   pub feed_arrives : (j : ℕ) (d : Delivery) (old new : History) → ComesWhole head leader j d → IsPrefix old leader

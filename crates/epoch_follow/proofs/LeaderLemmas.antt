@@ -1,16 +1,16 @@
 -- A follower's history as the beginning of its leader's.
-use Rattle.std.proofs.Common.{◌≡◌, ℕ, ◌+◌, ◌≤◌, ◌==◌, Bool, true, false, List, [], ◌∷◌, ◌++◌, Some, length, refl, sym, ap, subst, ◌∙◌, arith, append_assoc, length-append, ◌≢◌}
+use Rattle.std.proofs.Common.{◌≡◌, ℕ, ◌+◌, ◌≤◌, ◌==◌, Bool, true, false, List, [], ◌∷◌, ◌++◌, Some, length, refl, sym, ap, subst, ◌∙◌, arith, append_assoc, append-nil, length-append, ◌≢◌}
 use Rattle.std.specs.Prelude.{if◌then◌else◌, slice_get, All, Contains}
 use Rattle.std.proofs.lemmas.Bool.Decides.{nat_tests}
 use mathlib.Core.List.{IsPrefix}
 use Rattle.list_laws.proofs.Members.{each_in, in_first}
 use Rattle.std.proofs.lemmas.List.Elements.{Contains-append_right}
 use Rattle.arc_graph.specs.declared.change.Change.{Change}
-use Rattle.arc_graph.specs.History.{History, HistoryEntry, IsChange, IsHistory, IsPublished, max_pending, sets, sets_of}
+use Rattle.arc_graph.specs.History.{History, HistoryEntry, IsChange, IsHistory, IsPublished, ends_closed, max_pending, sets, sets_of}
 use Rattle.arc_graph.specs.History.HistoryEntry.{Changes, Closed}
 use Rattle.arc_graph.proofs.HistoryLemmas.{count_with_set, sets_of_both}
 use Rattle.road_network.specs.Limits.{max_epoch}
-use Rattle.epoch_store.proofs.PrefixLemmas.{prefix_self}
+use Rattle.epoch_store.proofs.PrefixLemmas.{prefix_same, prefix_self, prefix_shorter}
 use Rattle.epoch_follow.specs.Runs.{Message, last_epoch, with_message}
 use Rattle.epoch_follow.specs.Text.{FeedHead}
 
@@ -122,3 +122,35 @@ message_grows head h m = by_test (m.epoch == last_epoch head h + 1) where
   by_test : (test : Bool) → IsPrefix h (if test then h ++ Changes m.changes ∷ [] else h)
   by_test false = prefix_self h
   by_test true = (Changes m.changes ∷ [], refl)
+
+-- ---- the whole history
+
+-- a history has its end at the end
+ends_last : (h : History) (e : HistoryEntry) (more : History) → ends_closed (h ++ e ∷ more) ≡ ends_closed (e ∷ more)
+ends_last [] e more = refl
+ends_last (x ∷ []) e more = refl
+ends_last (x ∷ y ∷ h) e more = ends_last (y ∷ h) e more
+
+-- no set and no end is nothing
+nothing_more : (h : History) → sets h ≡ 0 → ends_closed h ≡ false → h ≡ []
+nothing_more [] none unclosed = refl
+nothing_more (Changes cs ∷ h) none unclosed = absurd (omega (arith, none))
+nothing_more (Closed ∷ []) none unclosed = absurd cc
+nothing_more (Closed ∷ e ∷ h) none unclosed = let rest : e ∷ h ≡ [] = nothing_more (e ∷ h) none unclosed in absurd cc
+
+-- a part from the front with all sets of a history that isn't closed is all of it
+pub all_of : (h whole : History) → IsPrefix h whole → sets whole ≤ sets h → ends_closed whole ≡ false → h ≡ whole
+all_of h whole begins count unclosed = by begins.0 begins.1 where
+  by : (more : History) → h ++ more ≡ whole → h ≡ whole
+  by [] e = sym (append-nil h) ∙ e
+  by (x ∷ more) e =
+      let size : sets h + sets (x ∷ more) ≡ sets whole =
+      sym (length-append (sets_of h) (sets_of (x ∷ more))) ∙ ap length (sym (sets_of_both h (x ∷ more))) ∙ ap sets e in
+      let none : sets (x ∷ more) ≡ 0 = omega (arith, size, count) in
+      let still = sym (ends_last h x more) ∙ ap ends_closed e ∙ unclosed in
+      let nothing : x ∷ more ≡ [] = nothing_more (x ∷ more) none still in absurd cc
+
+-- two histories of which each is a part of the other
+pub one_history : (h whole : History) → IsPrefix h whole → IsPrefix whole h → h ≡ whole
+one_history h whole there back =
+    prefix_same h whole whole there (prefix_self whole) (omega (arith, prefix_shorter h whole there, prefix_shorter whole h back))

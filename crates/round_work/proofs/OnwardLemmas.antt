@@ -17,7 +17,7 @@ use Rattle.arc_graph.proofs.NumbersLemmas.{number_within}
 use Rattle.waiting_item.specs.declared.item.Item.{Item}
 use Rattle.waiting_item.specs.Waiting.{Spot, Waiting, as_waiting, spot_of}
 use Rattle.round_work.specs.Onward.{IsTooWide, onward, reached_from}
-use Rattle.round_work.specs.Pieces.{Appends, AreOpenOf, AreWithRoom, items_of, onward_in, piece_size, AppendsFound, GivesIfRoom, found_in}
+use Rattle.round_work.specs.Pieces.{Appends, AreWithRoom, items_of, onward_in, piece_size, AppendsFound, GivesIfRoom, found_in}
 use Rattle.std.proofs.lemmas.Option.{slice_get_read}
 use Rattle.std.specs.Global.{Vec}
 use Rattle.work_claim.specs.Results.{GivesAll}

@@ -37,9 +37,9 @@ module _ (g : Graph) (o : Origin) (leader : History) (graph : IsGraph g) (publis
 
   -- what was taken of a source that tells its bytes
   taken_of : (mid new : History) (feed : TakenFeed) (bytes : List ℕ) → feed.before.left ≡ Some bytes → IsTakenFeed g o mid new feed
-      → TakesFeed head max_feed mid bytes feed.report.end new
+      → TakesFeed head max_feed mid bytes feed.after.left feed.report.end new
   taken_of mid new feed bytes tells taken =
-      subst (λ (left : Option (List ℕ)). IfSome left (λ bytes. TakesFeed head max_feed mid bytes feed.report.end new)) tells taken.takes
+      subst (λ (left : Option (List ℕ)). IfSome left (λ bytes. TakesFeed head max_feed mid bytes feed.after.left feed.report.end new)) tells taken.takes
 
   -- the follower keeps to its leader
   pub lead_keeps : {feeds : List TakenFeed} {last : History} → AllBring feeds → FeedsLead g o feeds last → IsPrefix last leader
@@ -47,7 +47,7 @@ module _ (g : Graph) (o : Origin) (leader : History) (graph : IsGraph g) (publis
   lead_keeps bring (then {feeds} {mid} {last} feed lead taken) =
       let brings = last_brings feeds feed bring in
       let from = brings.comes in
-      feed_keeps head leader is published from.from from.to from.counted from.ordered from.there max_feed mid last brings.bytes feed.report.end from.front
+      feed_keeps head leader is published from.from from.to from.counted from.ordered from.there max_feed mid last brings.bytes feed.after.left feed.report.end from.front
       (lead_keeps (others_bring feeds feed bring) lead) (taken_of mid last feed brings.bytes brings.tells taken)
 
   -- a feed that came whole brought it up
@@ -55,7 +55,7 @@ module _ (g : Graph) (o : Origin) (leader : History) (graph : IsGraph g) (publis
       → ReportsSets o.first j feed.report
   brought_up j feed mid new begins taken whole =
       let text = feed_text head leader 1 j in
-      let d : Delivery = record { bytes = text; total = max_feed; end = feed.report.end } in
+      let d : Delivery = record { bytes = text; after = feed.after.left; total = max_feed; end = feed.report.end } in
       let comes : ComesWhole head leader j d =
       record { there = whole.there; whole = refl; remembered = whole.remembered; read = whole.read; short = whole.short } in
       let caught = feed_arrives head leader is published j d mid new comes begins (taken_of mid new feed text whole.whole taken) in

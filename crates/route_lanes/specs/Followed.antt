@@ -1,10 +1,11 @@
 -- What a follower beside lanes of sessions comes to by the feeds of one leader, by what is reported of its run.
-use Rattle.std.specs.Prelude.{◌≡◌, ◌≢◌, ℕ, ◌+◌, ◌≤◌, List, length, All, Contains, Some}
+use Rattle.std.specs.Prelude.{◌≡◌, ◌≢◌, ℕ, ◌+◌, ◌≤◌, false, List, length, All, Contains, Some}
 use mathlib.Core.List.{IsPrefix}
 use Rattle.route_io.specs.Sources.{SourceState}
 use Rattle.arc_graph.specs.Graph.{Graph, IsGraph, Weights}
 use Rattle.arc_graph.specs.History.{History, IsPublished, sets}
-use Rattle.epoch_follow.specs.declared.feed_end.FeedEnd.TheVariants.{Whole, Long, Read, OutOfMemory}
+use Rattle.epoch_follow.specs.declared.feed_end.FeedEnd.TheVariants.{Whole, Long}
+use Rattle.epoch_follow.specs.Takes.{feed_starved, is_read}
 use Rattle.epoch_follow.specs.Followers.{ComesFrom}
 use Rattle.epoch_follow.specs.Text.{FeedHead, feed_text, head_of}
 use Rattle.link_doors.specs.Links.{LinkState}
@@ -28,8 +29,8 @@ pub record BringFeedsOf (g : Graph) (first : ℕ) (leader : History) (sources : 
 pub record CameWhole (head : FeedHead) (leader : History) (j : ℕ) (feed : TakenFeed) : Type 0 where
   pub there : j ≤ sets leader
   pub whole : feed.before.left ≡ Some (feed_text head leader 1 j)
-  pub remembered : feed.report.end ≢ OutOfMemory
-  pub read : feed.report.end ≢ Read
+  pub remembered : feed_starved feed.report.end ≡ false
+  pub read : is_read feed.report.end ≡ false
   pub short : feed.report.end ≢ Long
 
 -- What is reported of a feed that brought a follower up to number j of the leader's sets: it was taken whole, and the number of

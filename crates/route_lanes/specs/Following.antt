@@ -29,10 +29,11 @@ pub record TakenFeed : Type 0 where
   pub after : SourceState
   pub report : FeedReport
 
--- The feed led a follower's history from there to here, by its run where its source tells the bytes, and its number is that of
--- the last epoch then. The source's failures alone make a failed read.
+-- The feed led a follower's history from there to here, by its run where its source tells the bytes, of which none is taken behind
+-- its end. Its number is that of the last epoch then. The source's failures alone make a failed read.
 pub record IsTakenFeed (graph : Graph) (o : Origin) (mid last : History) (feed : TakenFeed) : Type 0 where
-  pub takes : IfSome feed.before.left (λ bytes. TakesFeed (head_of graph o.first) max_feed mid bytes feed.report.end last)
+  pub takes : IfSome feed.before.left (λ bytes. TakesFeed (head_of graph o.first) max_feed mid bytes feed.after.left
+      feed.report.end last)
   pub begins : IsPrefix mid last
   pub reads : ReadsFrom feed.before feed.after (is_read feed.report.end)
   pub number : feed.report.number ≡ last_number o last

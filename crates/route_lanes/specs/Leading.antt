@@ -2,10 +2,10 @@
 use Rattle.std.specs.Prelude.{◌≡◌, ◌≢◌, ℕ, [], Result, Ok, Err}
 use Rattle.route_io.specs.Sinks.{SinkState, Sends}
 use Rattle.route_io.specs.declared.fault.WriteFault.{WriteFault}
-use Rattle.arc_graph.specs.Graph.{Graph, Weights}
+use Rattle.arc_graph.specs.Graph.{Graph, IsGraph, Weights}
 use Rattle.arc_graph.specs.History.{Operator, sets}
 use Rattle.epoch_follow.specs.Text.{feed_text, head_of}
-use Rattle.epoch_store.specs.Origin.{Origin}
+use Rattle.epoch_store.specs.Origin.{IsOperatorIn, Origin}
 use Rattle.link_doors.specs.Links.{LinkState}
 use Rattle.session_core.specs.declared.context.LinkPolicy.{LinkPolicy}
 use Rattle.session_core.specs.declared.fault.ReplyFault.{ReplyFault}
@@ -15,10 +15,12 @@ use Rattle.session_core.specs.Links.{Serves, is_starved}
 use Rattle.session_core.specs.Operators.{IsOperatorBye, OperatorRun}
 
 -- A link of an operator was served from nothing published on, and memory didn't run out in it; the feed of all that it left
--- published was sent with this result.
+-- published, within the limits of the store, was sent with this result.
 pub record IsFeedWritten (graph : Graph) (o : Origin) (policy : LinkPolicy) (before after : LinkState) (out sent : SinkState)
     (result : Result (Unit {0}) WriteFault) : Type 0 where
+  pub is_graph : IsGraph graph
   pub left : Operator
+  pub operator : IsOperatorIn o left
   pub end : SessionEnd
   pub remembered : is_starved end ≡ false
   pub serves : Serves (OperatorRun o) (IsOperatorBye o) policy (record { published = []; pending = [] }) left

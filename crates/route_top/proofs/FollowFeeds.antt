@@ -1,12 +1,12 @@
 -- What feeds that come from memory lead a follower to, where it didn't want memory.
-use Rattle.std.proofs.Common.{◌≡◌, ◌≢◌, ℕ, List, [], ◌∷◌, ◌++◌, map, refl, ap, ap₂, sym, subst, ◌∙◌, arith}
+use Rattle.std.proofs.Common.{◌≡◌, ℕ, false, List, [], ◌∷◌, ◌++◌, map, refl, ap, ap₂, sym, subst, ◌∙◌, arith}
 use Rattle.std.specs.Prelude.{All}
 use Rattle.std.proofs.lemmas.List.{map-append}
 use Rattle.std.proofs.lemmas.List.Elements.{All-cons, All-head, All-nil, All-tail}
 use Rattle.arc_graph.specs.Graph.{Graph}
 use Rattle.arc_graph.specs.History.{History}
 use Rattle.epoch_follow.specs.Runs.{FeedRun, feed_run, last_epoch}
-use Rattle.epoch_follow.specs.Takes.{TakesFeed, is_read}
+use Rattle.epoch_follow.specs.Takes.{RunsTo, feed_starved, is_read}
 use Rattle.epoch_follow.specs.Text.{FeedHead, head_of}
 use Rattle.epoch_follow.specs.declared.feed_end.FeedEnd.{FeedEnd}
 use Rattle.epoch_follow.specs.declared.feed_end.FeedEnd.TheVariants.{Whole, Cut, Bad, Gap, Long, Read, OutOfMemory}
@@ -60,16 +60,16 @@ module _ (head : FeedHead) where
       ap (λ (rs : List FeedReport). report_by (feed_run head max_feed h one) ∷ rs) (reports_more (feed_run head max_feed h one).history feeds bytes)
 
   -- a source in memory doesn't fail
-  runs_whole : (mid last : History) (bytes rest : List ℕ) (end : FeedEnd) → end ≢ OutOfMemory → TakesFeed head max_feed mid bytes end last
+  runs_whole : (mid last : History) (bytes rest : List ℕ) (end : FeedEnd) → feed_starved end ≡ false → RunsTo head max_feed mid bytes end last
       → ReadsFrom (sure_source_state bytes) (sure_source_state rest) (is_read end)
       → feed_run head max_feed mid bytes ≡ record { history = last; end = end }
-  runs_whole mid last bytes rest Whole no_want takes reads = takes
-  runs_whole mid last bytes rest Cut no_want takes reads = takes
-  runs_whole mid last bytes rest (Bad line) no_want takes reads = takes
-  runs_whole mid last bytes rest (Gap line) no_want takes reads = takes
-  runs_whole mid last bytes rest Long no_want takes reads = takes
-  runs_whole mid last bytes rest Read no_want takes reads = absurd (omega (arith, reads.cause.1))
-  runs_whole mid last bytes rest OutOfMemory no_want takes reads = absurd (no_want refl)
+  runs_whole mid last bytes rest Read no_want runs reads = absurd (omega (arith, reads.cause.1))
+  runs_whole mid last bytes rest Whole no_want runs reads = runs
+  runs_whole mid last bytes rest Cut no_want runs reads = runs
+  runs_whole mid last bytes rest (Bad line) no_want runs reads = runs
+  runs_whole mid last bytes rest (Gap line) no_want runs reads = runs
+  runs_whole mid last bytes rest Long no_want runs reads = runs
+  runs_whole mid last bytes rest (OutOfMemory want) no_want runs reads = absurd cc
 
 -- Feeds of these bytes led to this history, with these reports.
 pub record FeedsRun (head : FeedHead) (feeds : List (List ℕ)) (reports : List FeedReport) (last : History) : Type 0 where
@@ -81,7 +81,7 @@ module _ (graph : Graph) (o : Origin) where
   head = head_of graph o.first
 
   abbrev wants_none : TakenFeed → Type 0
-  wants_none feed = feed.report.end ≢ OutOfMemory
+  wants_none feed = feed_starved feed.report.end ≡ false
 
   one_run : (mid last : History) (feed : TakenFeed) (bytes rest : List ℕ) → sure_source_state bytes ≡ feed.before → sure_source_state rest ≡ feed.after
       → wants_none feed → IsTakenFeed graph o mid last feed → feed_run head max_feed mid bytes ≡ record { history = last; end = feed.report.end }
@@ -89,7 +89,7 @@ module _ (graph : Graph) (o : Origin) where
       let Takes : SourceState → Type 0 = λ b. IsTakenFeed graph o mid last (record { before = b; after = feed.after; report = feed.report }) in
       let from = subst Takes (sym before) taken in
       let reads = subst (λ (a : SourceState). ReadsFrom (sure_source_state bytes) a (is_read feed.report.end)) (sym after) from.reads in
-      runs_whole head mid last bytes rest feed.report.end no_want from.takes reads
+      runs_whole head mid last bytes rest feed.report.end no_want from.takes.runs reads
 
   all_but_last : (feeds : List TakenFeed) (feed : TakenFeed) → All wants_none (feeds ++ feed ∷ []) → All wants_none feeds × wants_none feed
   all_but_last [] feed each = (All-nil wants_none, All-head wants_none feed [] each)
@@ -119,10 +119,10 @@ module _ (graph : Graph) (o : Origin) where
 
   -- all feeds that were taken from memory
   pub feeds_run : (feeds rests : List (List ℕ)) (reports : List FeedReport) (last : History)
-      → TakesFeeds graph o (map sure_source_state feeds) (map sure_source_state rests) reports last → All (λ r. r.end ≢ OutOfMemory) reports
+      → TakesFeeds graph o (map sure_source_state feeds) (map sure_source_state rests) reports last → All (λ r. feed_starved r.end ≡ false) reports
       → FeedsRun (head_of graph o.first) feeds reports last
   feeds_run feeds rests reports last takes no_want =
-      let Wantless : FeedReport → Type 0 = λ r. r.end ≢ OutOfMemory in
+      let Wantless : FeedReport → Type 0 = λ r. feed_starved r.end ≡ false in
       let each = all_of_map Wantless (λ (f : TakenFeed). f.report) takes.feeds (subst (All Wantless) takes.reported no_want) in
       let run = feeds_led takes.lead feeds rests takes.sources_before takes.sources_after each in
       record { history = run.history; reports_are = run.reports_are ∙ sym takes.reported }

@@ -3,11 +3,11 @@ use Rattle.std.proofs.Common.{◌≡◌, ◌≢◌, ℕ, ◌≤◌, List, [], �
 use Rattle.std.specs.Prelude.{All, Option, Result}
 use Rattle.std.proofs.lemmas.List.{length-map}
 use Rattle.arc_graph.specs.Graph.{Graph, Match, Weights, network}
-use Rattle.arc_graph.specs.History.{sets}
+use Rattle.arc_graph.specs.History.{IsOperator, Operator, sets}
 use Rattle.arc_graph.specs.History.HistoryEntry.{Closed}
 use Rattle.epoch_follow.specs.Text.{feed_text, head_of}
-use Rattle.epoch_follow.specs.declared.feed_end.FeedEnd.TheVariants as feed
-use Rattle.epoch_store.specs.Origin.{Origin}
+use Rattle.epoch_follow.specs.Takes.{feed_starved}
+use Rattle.epoch_store.specs.Origin.{IsOperatorIn, Origin}
 use Rattle.session_core.specs.declared.fault.ReplyFault.{ReplyFault}
 use Rattle.session_core.specs.declared.fault.ReplyFault.TheVariants as reply
 use Rattle.road_network.specs.Network.{Network}
@@ -51,7 +51,7 @@ module _ {L : Type 0} (script_of : L → List ℕ) (sink_of : L → SureSink) wh
       (map (state_of script_of sink_of) olds) (map (state_of script_of sink_of) news) report
       → length feeds ≡ asked.links
       → All (λ link. length (script_of link) ≤ max_script) olds → All (λ link. sink_of link ≡ unsent_sink) olds
-      → All (λ r. r.end ≢ feed.OutOfMemory) report.feeds → All (λ r. is_starved r.end ≡ false) report.lanes
+      → All (λ r. feed_starved r.end ≡ false) report.feeds → All (λ r. is_starved r.end ≡ false) report.lanes
       → RepliesBesideFeeds asked (network g w) (feeds ++ map script_of olds)
       (feed_lines 1 report.feeds ++ lanes_reply 1 (map (λ link. (sink_of link).sent) news))
   followed asked g w matched feeds rests olds news report runs count short unsent no_feed_wants no_lane_wants =
@@ -85,7 +85,7 @@ module _ {L : Type 0} (script_of : L → List ℕ) (sink_of : L → SureSink) wh
       (map (state_of script_of sink_of) olds) (map (state_of script_of sink_of) news) report
       → length feeds ≡ asked.links
       → All (λ link. length (script_of link) ≤ max_script) items → All (λ link. sink_of link ≡ unsent_sink) items
-      → All (λ r. r.end ≢ feed.OutOfMemory) report.feeds → All (λ r. is_starved r.end ≡ false) report.lanes
+      → All (λ r. feed_starved r.end ≡ false) report.feeds → All (λ r. is_starved r.end ≡ false) report.lanes
       → RepliesBesideFeeds asked (network g w) (feeds ++ map script_of items)
       (feed_lines 1 text ++ lanes_reply 1 (map (λ link. (sink_of link).sent) after))
   followed_over asked g w matched feeds lent rests items olds news after n report text same_feeds same count back shown runs some short unsent no_feed_wants no_lane_wants =
@@ -120,6 +120,15 @@ module _ (asked : WriteWords) (g : Graph) (w : Weights) (matched : Match g w) (s
   abbrev weights_of_states : ℕ → List (Option (List ℕ)) → Weights
   weights_of_states criteria states = record { criteria = criteria; states = states }
 
+  -- what the operator keeps, by the network
+  limits_of : (o : Origin) → o.first ≡ asked.epoch → o.base ≡ w → (left : Operator) → IsOperatorIn o left
+      → IsOperator (length g.ends) g.criteria asked.epoch left
+  limits_of o first base left is =
+      let Keeps : ℕ → ℕ → ℕ → Type 0 = λ arcs criteria n. IsOperator arcs criteria n left in
+      let by_base = subst (λ (b : Weights). Keeps (length b.states) b.criteria o.first) base is in
+      subst (Keeps (length g.ends) g.criteria) first (subst (λ n. Keeps (length g.ends) n o.first) matched.criteria
+      (subst (λ n. Keeps n w.criteria o.first) matched.arcs by_base))
+
   sends_feed : (o : Origin) (result : Result (Unit {0}) WriteFault) → o.first ≡ asked.epoch → o.base ≡ w
       → IsFeedWritten g o script_policy (record { from = sure_source_state script; to = sure_sink_state to })
       (record { from = sure_source_state rest; to = sure_sink_state replied }) out sent result → SendsFeed asked (network g w) script out sent result
@@ -137,6 +146,8 @@ module _ (asked : WriteWords) (g : Graph) (w : Weights) (matched : Match g w) (s
           left = written.left;
           operator = replies.exchanges;
           operator_exchange = record { run = replies.runs; lines = replies.lines };
+          graph = written.is_graph;
+          limits = limits_of o first base written.left written.operator;
           text_is = refl;
         };
         sends = subst (λ (n : ℕ). Sends out sent (feed_text (head_of g n) written.left.published 1 (sets written.left.published)) result) first written.sends;

@@ -1,20 +1,15 @@
 -- Feeds of one leader that a follower takes from files.
-use Rattle.std.proofs.Common.{◌≡◌, ℕ, List, [], ◌∷◌, length, refl, subst, ap, ◌∙◌, arith}
+use Rattle.std.proofs.Common.{◌≡◌, ℕ, List, [], ◌∷◌, length, refl, subst, arith}
 use Rattle.std.specs.Prelude.{All}
-use Rattle.std.proofs.lemmas.List.{take_all}
 use Rattle.std.proofs.lemmas.List.Elements.{All-head, All-tail}
 use mathlib.Core.List.{IsPrefix}
 use Rattle.road_network.specs.Network.{Network}
 use Rattle.arc_graph.specs.Graph.{Graph, IsGraph}
 use Rattle.arc_graph.specs.History.{History, IsPublished, sets}
-use Rattle.line_text.specs.Lines.{lines_of}
 use Rattle.epoch_follow.specs.Followers.{ComesFrom}
-use Rattle.epoch_follow.specs.Runs.{FeedRun, begun, feed_run, run_lines}
-use Rattle.epoch_follow.specs.Takes.{TakesFeed, TakesLines}
+use Rattle.epoch_follow.specs.Runs.{feed_run}
 use Rattle.epoch_follow.specs.Text.{FeedHead, head_of}
-use Rattle.epoch_follow.specs.declared.feed_end.FeedEnd.{FeedEnd}
-use Rattle.epoch_follow.specs.declared.feed_end.FeedEnd.TheVariants.{Whole, Cut, Bad, Gap, Long, Read, OutOfMemory}
-use Rattle.epoch_follow.proofs.FollowLemmas.{feed_keeps}
+use Rattle.epoch_follow.proofs.FollowLemmas.{run_follows}
 use Rattle.epoch_follow.proofs.WrittenLemmas.{IsHead}
 use Rattle.route_lanes.specs.Following.{max_feed}
 use Rattle.command_words.specs.declared.commands.TakeWords.{TakeWords}
@@ -23,24 +18,6 @@ use Rattle.route_top.specs.Follow.{FeedOfScript, RepliesBesideFeeds, history_aft
 use Rattle.route_top.specs.Followed.{AreFeedsOf}
 use Rattle.route_top.specs.Lanes.{graph_of}
 
--- a run takes a feed, whatever its end
-module _ (head : FeedHead) (total : ℕ) (mid : History) (bytes : List ℕ) (new : History) where
-  all_lines : (end : FeedEnd) → feed_run head total mid bytes ≡ record { history = new; end = end } → TakesLines head total mid bytes new
-  all_lines end e =
-      let history : List (List ℕ) → History = λ ls. (run_lines head total (length bytes) (begun mid) ls).history in record {
-        count = length (lines_of bytes);
-        history = ap history (take_all (length (lines_of bytes)) (lines_of bytes) (omega arith)) ∙ ap (λ (r : FeedRun). r.history) e;
-      }
-
-  run_takes : (end : FeedEnd) → feed_run head total mid bytes ≡ record { history = new; end = end } → TakesFeed head total mid bytes end new
-  run_takes Whole e = e
-  run_takes Cut e = e
-  run_takes (Bad line) e = e
-  run_takes (Gap line) e = e
-  run_takes Long e = e
-  run_takes Read e = all_lines Read e
-  run_takes OutOfMemory e = all_lines OutOfMemory e
-
 module _ (g : Graph) (first : ℕ) (leader : History) (graph : IsGraph g) (published : IsPublished (length g.ends) g.criteria first leader) where
   abbrev head : FeedHead
   head = head_of g first
@@ -48,15 +25,16 @@ module _ (g : Graph) (first : ℕ) (leader : History) (graph : IsGraph g) (publi
   is : IsHead head
   is = record { arcs = omega (arith, graph.arcs); criteria = graph.four; first = omega (arith, published.number) }
 
-  after_keeps : (h : History) (feeds : List (List ℕ)) → IsPrefix h leader → All (ComesFrom head leader) feeds
+  -- one feed more
+  pub one_keeps : (h : History) (bytes : List ℕ) → ComesFrom head leader bytes → IsPrefix h leader → IsPrefix (feed_run head max_feed h bytes).history leader
+  one_keeps h bytes from begins =
+      run_follows head leader is published from.from from.to from.counted from.ordered from.there max_feed h bytes from.front begins
+
+  pub after_keeps : (h : History) (feeds : List (List ℕ)) → IsPrefix h leader → All (ComesFrom head leader) feeds
       → IsPrefix (history_after head h feeds) leader
   after_keeps h [] begins come = begins
   after_keeps h (bytes ∷ feeds) begins come =
-      let from = All-head (ComesFrom head leader) bytes feeds come in
-      let run = feed_run head max_feed h bytes in
-      after_keeps run.history feeds
-      (feed_keeps head leader is published from.from from.to from.counted from.ordered from.there max_feed h run.history bytes run.end from.front begins
-      (run_takes head max_feed h bytes run.history run.end refl))
+      after_keeps (feed_run head max_feed h bytes).history feeds (one_keeps h bytes (All-head (ComesFrom head leader) bytes feeds come) begins)
       (All-tail (ComesFrom head leader) bytes feeds come)
 
 -- the follower keeps to its leader

@@ -10,4 +10,5 @@ pub mod FollowFeeds
 pub mod FollowedScripts
 pub mod FollowRuns
 mod LeaderFeeds
+mod WrittenFeeds
 pub mod OutputLemmas

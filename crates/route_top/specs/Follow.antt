@@ -4,7 +4,8 @@ use Rattle.std.specs.Prelude.{◌≡◌, ℕ, ◌+◌, List, [], ◌∷◌, ◌+
 use Rattle.std.specs.List.{AllZip, range_with_len}
 use Rattle.route_io.specs.Files.{FileMap}
 use Rattle.road_network.specs.Network.{Network}
-use Rattle.arc_graph.specs.History.{History, Operator, sets}
+use Rattle.arc_graph.specs.Graph.{IsGraph}
+use Rattle.arc_graph.specs.History.{History, IsOperator, Operator, sets}
 use Rattle.arc_graph.specs.History.HistoryEntry.{Closed}
 use Rattle.answer_writer.specs.Replies.{and_number, end_line}
 use Rattle.epoch_follow.specs.Runs.{feed_run, last_epoch}
@@ -30,7 +31,8 @@ numbered stem count = map (session_name stem) (range_with_len 1 count)
 
 -- ---- the feed of a script
 
--- The text is the feed of all change sets that the lines of the operator's script publish.
+-- The text is the feed of all change sets that the lines of the operator's script publish, within the limits of a store over this
+-- network.
 pub record FeedOfScript (asked : WriteWords) (net : Network) (scripts : List (List ℕ)) (text : List ℕ) : Type 0 where
   pub origin : Origin
   pub first_is : origin.first ≡ asked.epoch
@@ -40,6 +42,8 @@ pub record FeedOfScript (asked : WriteWords) (net : Network) (scripts : List (Li
   pub left : Operator
   pub operator : List Exchange
   pub operator_exchange : IsOperatorExchange origin script left operator
+  pub graph : IsGraph (graph_of net)
+  pub limits : IsOperator (length net.ends) net.criteria asked.epoch left
   pub text_is : text ≡ feed_text (head_of (graph_of net) asked.epoch) left.published 1 (sets left.published)
 
 -- the feed is sent, unless memory runs out in the operator's lane or before

@@ -18,7 +18,10 @@ mod script;
 mod serve;
 
 use command_words::{Command, WaitingCommand, read_words};
-pub use laws::{follow_keeps_to_its_leader, written_feeds_come_from_their_script};
+pub use laws::{
+    follow_keeps_to_its_leader, written_feeds_come_from_their_script,
+    written_feeds_lead_their_followers,
+};
 use link_doors::Town;
 use route_io::{Folder, Gate, Sink};
 use std::alloc::Global;

@@ -150,9 +150,7 @@ impl Stop<'_> {
             Stop::Town => put_all(err, b"route: town\n"),
             Stop::Words(WordsFault::OutOfMemory(_))
             | Stop::Out(WriteFault::OutOfMemory(_))
-            | Stop::OutOfMemory(_) => {
-                put_all(err, b"route: memory\n")
-            }
+            | Stop::OutOfMemory(_) => { put_all(err, b"route: memory\n") }
         }
     }
 }

@@ -118,7 +118,13 @@ fn shown_gen(alloc: Global, asked: &GenWords) -> Result<String, AllocError> {
 /// The addresses stand last, that of the operator behind the other.
 fn shown_serve(alloc: Global, asked: &ServeWords) -> Result<String, AllocError> {
     let (budget, workers) = (asked.limits.budget.get(), asked.limits.workers.get());
-    let numbers = [asked.lanes.get(), asked.links.get(), asked.epoch, budget, workers];
+    let numbers = [
+        asked.lanes.get(),
+        asked.links.get(),
+        asked.epoch,
+        budget,
+        workers,
+    ];
     let mut text = listed(alloc, "serve", &numbers, asked.files.as_slice())?;
     let (listen, operator) = (asked.listen.text(), asked.operator.text());
     write!(text, " at {listen:?} {operator:?}")?;
@@ -150,7 +156,13 @@ fn shown_write(alloc: Global, asked: &WriteWords) -> Result<String, AllocError> 
 /// The stems stand last, that of the feeds first.
 fn shown_take(alloc: Global, asked: &TakeWords) -> Result<String, AllocError> {
     let (budget, workers) = (asked.limits.budget.get(), asked.limits.workers.get());
-    let numbers = [asked.links.get(), asked.count.get(), asked.epoch, budget, workers];
+    let numbers = [
+        asked.links.get(),
+        asked.count.get(),
+        asked.epoch,
+        budget,
+        workers,
+    ];
     let mut text = listed(alloc, "take", &numbers, asked.files.as_slice())?;
     let (feeds, sessions) = (asked.feeds.text(), asked.stem.text());
     write!(text, " of {feeds:?} {sessions:?}")?;

@@ -1,5 +1,6 @@
 use Rattle.std.proofs.Common.{Err, subst}
 use Rattle.arc_graph.specs.History.{Operator, sets}
+use Rattle.epoch_store.specs.Origin.{IsOperatorIn}
 use Rattle.epoch_follow.specs.Text.{feed_text, head_of}
 use Rattle.route_io.specs.Sinks.{Sends}
 use Rattle.route_lanes.proofs.leader.write_published.Goals as goal
@@ -11,7 +12,9 @@ returns-in-Err g c =
     let Sent : Operator → Type 0 = λ o. Sends {T = Unit {0}} (g.O.Sink.state c.args.out.now) (g.O.Sink.state c.put_feed.new.sink)
     (feed_text head o.published 1 (sets o.published)) (Err c.in-Err.fault) in
     record {
+      is_graph = c.nodes.ensures.graph;
       left = served.0;
+      operator = subst (IsOperatorIn g.T.Store.origin) served.1 c.number.ensures.operator;
       end = c.serve_operator.result;
       remembered = c.in_default.not-OutOfMemory;
       serves = rw c.requires.new at served.2;

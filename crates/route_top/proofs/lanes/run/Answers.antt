@@ -66,7 +66,7 @@ returns-in_err-put_lanes g c =
     let short = all_short {L = SureLink} (λ l. l.from) (g.F.Source.state c.read_network.new.folder).files (scripts_of asked) c.in_ok-links.links.items
     c.in_ok-links.ensures.read in
     let exchanges = links_exchanged {L = SureLink} (λ l. l.from) (λ l. l.to) asked _ _ c.in_ok-graph.ensures.matched c.in_ok-links.links.items _ _ _ _ _ _
-    c.deref_mut.ensures.value c.in_ok-links.links.ok.0 c.deref-2.ensures.value c.deref.ensures.value c.in_ok-reports.ensures short
+    c.deref_mut.ensures.value c.in_ok-links.links.ok.0 c.deref-2.ensures.value c.deref.ensures.value c.in_ok-reports.ensures.served short
     c.in_ok-links.ensures.unsent c.in_ok-memory_sufficed.ensures in
     rw (p.1, p.2) (ends_over_scripts asked _ _ _ _ read c.in_ok-graph.ensures.folder _ _ _ _ c.in_ok-links.ensures.read c.in_ok-links.ensures.folder
     (lanes_cut asked _ _ _ exchanges _ _ _ c.in_err-put_lanes.ensures))
@@ -78,7 +78,7 @@ returns g c =
     let short = all_short {L = SureLink} (λ l. l.from) (g.F.Source.state c.read_network.new.folder).files (scripts_of asked) c.in_ok-links.links.items
     c.in_ok-links.ensures.read in
     let exchanges = links_exchanged {L = SureLink} (λ l. l.from) (λ l. l.to) asked _ _ c.in_ok-graph.ensures.matched c.in_ok-links.links.items _ _ _ _ _ _
-    c.deref_mut.ensures.value c.in_ok-links.links.ok.0 c.deref-2.ensures.value c.deref.ensures.value c.in_ok-reports.ensures short
+    c.deref_mut.ensures.value c.in_ok-links.links.ok.0 c.deref-2.ensures.value c.deref.ensures.value c.in_ok-reports.ensures.served short
     c.in_ok-links.ensures.unsent c.in_ok-memory_sufficed.ensures in
     ends_over_scripts asked _ _ _ _ read c.in_ok-graph.ensures.folder _ _ _ _ c.in_ok-links.ensures.read c.in_ok-links.ensures.folder
     (lanes_replied asked _ _ _ exchanges _ _ c.in_ok-put_lanes.ensures)

@@ -16,6 +16,7 @@ import sys
 from dataclasses import asdict
 
 from saminoha_planner.client import (
+    Address,
     Answer,
     ClientError,
     Costs,
@@ -49,6 +50,7 @@ from saminoha_planner.command import run
 from saminoha_planner.progress import waiting
 
 __all__ = [
+    "Address",
     "Answer",
     "ClientError",
     "Costs",
@@ -85,7 +87,10 @@ def main() -> None:
         description="Asks a running `route serve` one query, and prints the answer as JSON."
     )
     parser.add_argument(
-        "address", type=parse_address, metavar="HOST:PORT", help="where sessions are served"
+        "address",
+        type=parse_address,
+        metavar="ADDRESS",
+        help="where sessions are served, HOST:PORT or unix:PATH",
     )
     parser.add_argument("source", type=int, metavar="FROM", help="a node")
     parser.add_argument("target", type=int, metavar="TO", help="a node")
@@ -100,8 +105,8 @@ def main() -> None:
         "--timeout", type=float, default=60.0, metavar="SECONDS", help="how long to wait (60)"
     )
     words = parser.parse_args()
-    host, port = words.address
-    with waiting("asking the server"), Session(host, port, words.timeout) as session:
+    address: Address = words.address
+    with waiting("asking the server"), Session(*address, words.timeout) as session:
         answer = session.query(words.source, words.target, words.limits or None)
     json.dump(asdict(answer), sys.stdout)
     print()

@@ -14,7 +14,7 @@ import socket
 import sys
 from pathlib import Path
 
-from saminoha_planner.client import Sizes, parse_address
+from saminoha_planner.client import Address, Sizes, parse_address
 from saminoha_planner.command import Fault, run
 from saminoha_planner.network import read_network
 
@@ -31,7 +31,7 @@ def parse_words() -> argparse.Namespace:
 
 
 def add_addresses(parser: argparse.ArgumentParser) -> None:
-    group = parser.add_argument_group("addresses, each HOST:PORT")
+    group = parser.add_argument_group("addresses, each HOST:PORT, and of servers unix:PATH too")
     group.add_argument(
         "--leader",
         type=parse_address,
@@ -56,7 +56,7 @@ def add_addresses(parser: argparse.ArgumentParser) -> None:
     group.add_argument(
         "--listen",
         type=parse_address,
-        default=("127.0.0.1", 8090),
+        default=Address("127.0.0.1", 8090),
         metavar="ADDRESS",
         help="where HTTP is served (127.0.0.1:8090); a socket of systemd comes before it",
     )
@@ -120,18 +120,20 @@ def check(words: argparse.Namespace) -> None:
         raise Fault("--operator comes with --tokens, by which roads are closed")
     if words.tokens and not words.operator:
         raise Fault("--tokens comes with --operator, where closures are published")
+    if words.listen.file is not None:
+        raise Fault("--listen takes HOST:PORT, since peers of a socket file have no address")
 
 
-def listening(address: tuple[str, int]) -> socket.socket:
+def listening(address: Address) -> socket.socket:
     """The socket that systemd passed, else one at the address."""
     if os.environ.get("LISTEN_PID") == str(os.getpid()) and os.environ.get("LISTEN_FDS") == "1":
         return socket.socket(fileno=FIRST_SOCKET)
-    family = socket.AF_INET6 if ":" in address[0] else socket.AF_INET
+    family = socket.AF_INET6 if ":" in address.host else socket.AF_INET
     try:
         return socket.create_server(address, family=family, backlog=1024)
     except OSError as fault:
         text = fault.strerror or fault
-        raise Fault(f"{address[0]}:{address[1]} can't be listened at: {text}") from fault
+        raise Fault(f"{address} can't be listened at: {text}") from fault
 
 
 def log_to(audit: Path | None) -> None:

@@ -66,8 +66,9 @@ def add_log_options(parser: argparse.ArgumentParser) -> None:
     group.add_argument(
         "--send",
         type=parse_address,
-        metavar="HOST:PORT",
-        help="send them to a running server's operator address, and note it in the log",
+        metavar="ADDRESS",
+        help="send them to a running server's operator address, HOST:PORT or unix:PATH, and note"
+        " it in the log",
     )
     group.add_argument(
         "--log",

@@ -35,13 +35,13 @@ def parse_words() -> argparse.Namespace:
     parser.add_argument(
         "--session",
         type=parse_address,
-        metavar="HOST:PORT",
-        help="a running server of this network; else one is started",
+        metavar="ADDRESS",
+        help="a running server of this network, HOST:PORT or unix:PATH; else one is started",
     )
     parser.add_argument(
         "--operator",
         type=parse_address,
-        metavar="HOST:PORT",
+        metavar="ADDRESS",
         help="its operator's address, to close roads",
     )
     parser.add_argument(

@@ -15,14 +15,13 @@ from contextlib import suppress
 from datetime import datetime
 from typing import TypeVar
 
-from saminoha_planner.client import Answer, Change, ClientError, Epoch, Now, Operator
+from saminoha_planner.client import Address, Answer, Change, ClientError, Epoch, Now, Operator
 from saminoha_planner.closures import Closure, Log, State
 from saminoha_planner.keeper import PAUSE, Keeper
 from saminoha_planner.network import Network
 from saminoha_planner.roads import Roads
 from saminoha_planner.stretches import Piece, Stretches
 
-from .links import Address
 from .pool import Pool
 from .problems import Problem
 from .servers import Busy

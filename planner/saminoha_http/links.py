@@ -7,6 +7,7 @@ from collections.abc import Callable
 from typing import cast
 
 from saminoha_planner.client import (
+    Address,
     Answer,
     ClientError,
     Costs,
@@ -20,7 +21,6 @@ from saminoha_planner.client import (
 )
 from saminoha_planner.client.lines import Replies
 
-Address = tuple[str, int]
 MOST_BYTES = 2**26  # of one reply
 LONG = 2**16  # bytes of a reply that is parsed beside the loop
 
@@ -54,10 +54,9 @@ class Link(asyncio.Protocol):
         """A link to a server that has a lane for it and serves a network of these sizes. Once it
         has ended, whoever opened it is told.
         """
-        loop = asyncio.get_running_loop()
         link = Link(sizes.criteria, ended)
         try:
-            await loop.create_connection(lambda: link, *address)
+            await link._connect(address)
             await link._greet(sizes)
         except OSError as fault:
             raise Broken(f"it can't be reached: {fault.strerror or fault}") from fault
@@ -65,6 +64,13 @@ class Link(asyncio.Protocol):
             link.close()
             raise
         return link
+
+    async def _connect(self, address: Address) -> None:
+        loop = asyncio.get_running_loop()
+        if address.file is None:
+            await loop.create_connection(lambda: self, *address)
+        else:
+            await loop.create_unix_connection(lambda: self, address.file)
 
     async def _greet(self, sizes: Sizes) -> None:
         last = sizes.nodes

@@ -21,6 +21,7 @@ from contextlib import asynccontextmanager
 from dataclasses import dataclass
 
 from saminoha_planner.client import (
+    Address,
     Answer,
     ClientError,
     Epoch,
@@ -32,7 +33,7 @@ from saminoha_planner.client import (
     TimedOut,
 )
 
-from .links import Address, Broken, Link
+from .links import Broken, Link
 from .servers import Backend, Busy, LeaderEpochs, Limits
 
 LOG = logging.getLogger("saminoha.pool")

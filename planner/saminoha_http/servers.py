@@ -5,9 +5,9 @@ from __future__ import annotations
 from collections import deque
 from dataclasses import dataclass, field
 
-from saminoha_planner.client import ClientError
+from saminoha_planner.client import Address, ClientError
 
-from .links import Address, Link
+from .links import Link
 
 MOST_EPOCHS = 1000  # of the leader, whose times are known
 

@@ -12,6 +12,7 @@ from dataclasses import dataclass, field, replace
 from typing import Protocol
 
 from .client import (
+    Address,
     Answer,
     Change,
     ClientError,
@@ -26,7 +27,6 @@ from .client import (
 )
 from .network import Network
 
-Address = tuple[str, int]
 OWN_LANES = 3  # one for who watches, and two that search
 
 
@@ -109,8 +109,9 @@ class OwnServer:
         try:
             started = self._program.serve(self._files, lanes=OWN_LANES)
             server = self._until.enter_context(started)
-            addresses = ((server.host, server.port), (server.host, server.operator_port))
-            self._asker = ServerAsker(*addresses, self._timeout, is_own=True)
+            ports = (server.port, server.operator_port)
+            session, operator = (Address(server.host, port) for port in ports)
+            self._asker = ServerAsker(session, operator, self._timeout, is_own=True)
         except ClientError as fault:
             self._fault = fault
         self._ready.set()

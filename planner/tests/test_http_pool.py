@@ -11,7 +11,7 @@ import pytest
 
 from saminoha_http.pool import Pool
 from saminoha_http.servers import Busy, Limits
-from saminoha_planner.client import Answer, Now, Query, Route, Sizes, TimedOut
+from saminoha_planner.client import Address, Answer, Now, Query, Route, Sizes, TimedOut
 
 SIZES = Sizes(9, 20, 2)
 ASKED = Query(1, 2)
@@ -55,8 +55,8 @@ class Drawn:
         await self.__aenter__()
 
     @property
-    def address(self) -> tuple[str, int]:
-        return "127.0.0.1", self.port
+    def address(self) -> Address:
+        return Address("127.0.0.1", self.port)
 
     async def serve(self, reader: asyncio.StreamReader, writer: asyncio.StreamWriter) -> None:
         self.writers.add(writer)

@@ -95,8 +95,8 @@ abbrev pub workers_of : List Row → Option ℕ
 workers_of rows = number_or default_workers 1 max_workers (first_of (codes "workers") rows)
 
 -- `--lanes`
-abbrev pub lanes_of : List Row → Option ℕ
-lanes_of rows = number_or default_lanes 1 max_lanes (first_of (codes "lanes") rows)
+abbrev pub lane_count_of : List Row → Option ℕ
+lane_count_of rows = number_or default_lanes 1 max_lanes (first_of (codes "lanes") rows)
 
 -- `--epoch`
 abbrev pub epoch_of : List Row → Option ℕ
@@ -163,11 +163,11 @@ gen_of rows = do
   Some (record { plan = plan; file = file; limits = limits })
 
 -- `lanes`
-unfoldable pub lanes_words_of : List Row → List Text → Option LanesWords
-lanes_words_of rows files = do
+unfoldable pub lanes_of : List Row → List Text → Option LanesWords
+lanes_of rows files = do
   operator ← first_of (codes "operator") rows
   stem ← first_of (codes "sessions") rows
-  count ← lanes_of rows
+  count ← lane_count_of rows
   epoch ← epoch_of rows
   limits ← limits_of rows
   Some (record { operator = operator; stem = stem; count = count; epoch = epoch; limits = limits; files = files })
@@ -177,7 +177,7 @@ unfoldable pub serve_of : List Row → List Text → Option ServeWords
 serve_of rows files = do
   listen ← first_of (codes "listen") rows
   operator ← first_of (codes "operator") rows
-  lanes ← lanes_of rows
+  lanes ← lane_count_of rows
   links ← number_or default_links 1 max_links (first_of (codes "links") rows)
   epoch ← epoch_of rows
   limits ← limits_of rows
@@ -222,7 +222,7 @@ take_of rows files = do
   feeds ← first_of (codes "feeds") rows
   links ← number_or default_feeds 1 max_feeds (first_of (codes "links") rows)
   stem ← first_of (codes "sessions") rows
-  count ← lanes_of rows
+  count ← lane_count_of rows
   epoch ← epoch_of rows
   limits ← limits_of rows
   Some (record { feeds = feeds; links = links; stem = stem; count = count; epoch = epoch; limits = limits; files = files })
@@ -239,7 +239,7 @@ command_over Goal rows files = option_map (λ c. Still (still.Goal c)) (goal_of 
 command_over Check rows files = Some (Still (still.Check files))
 command_over Batch rows files = option_map (λ c. Still (still.Batch c)) (batch_of rows files)
 command_over Gen rows files = None
-command_over Lanes rows files = option_map (λ c. Waiting (waiting.Lanes c)) (lanes_words_of rows files)
+command_over Lanes rows files = option_map (λ c. Waiting (waiting.Lanes c)) (lanes_of rows files)
 command_over Serve rows files = option_map (λ c. Waiting (waiting.Serve c)) (serve_of rows files)
 command_over Prove rows files = option_map (λ c. Still (still.Prove c)) (prove_of rows files)
 command_over Verify rows files = option_map (λ c. Still (still.Verify c)) (verify_of rows files)

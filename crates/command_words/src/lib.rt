@@ -21,13 +21,10 @@ pub use commands::{
 };
 pub use fault::{WordsFault, WordsWant};
 pub use limits::{
-    Budget, DEFAULT_BUDGET, DEFAULT_EPOCH, DEFAULT_FEEDS, DEFAULT_LANES, DEFAULT_LINKS,
-    DEFAULT_LISTED, DEFAULT_WORKERS, FeedCount, LaneCount, LinkCount, MAX_FEEDS, MAX_LANES,
-    MAX_LINKS, MAX_LISTED, MAX_NODE, MAX_START, MAX_WORKERS, SearchLimits, UnlimitedQuery,
-    WorkerCount,
+    Budget, FeedCount, LaneCount, LinkCount, SearchLimits, UnlimitedQuery, WorkerCount,
 };
 use std::alloc::Global;
-pub use texts::{FileNames, MAX_FILES, MIN_FILES, Word};
+pub use texts::{FileNames, Word};
 
 /// Reads the words of a command line, of which the first names the command.
 ///

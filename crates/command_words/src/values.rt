@@ -2,7 +2,7 @@
 ghost use Rattle.std.specs.Prelude.{◌≡◌, ◌≤◌, codes, is_none, map, option_map};
 ghost use Rattle.clap.specs.Words.{all_of, first_of, found_of, rows_of};
 ghost use Rattle.command_words.specs.Words.{Gives, batch_of, command_of, command_over, epoch_of, file_in, files_of, follow_by, gen_of};
-ghost use Rattle.command_words.specs.Words.{goal_of, is_set, lanes_of, lanes_words_of, limits_of, number_if, number_in, number_or, plan_of};
+ghost use Rattle.command_words.specs.Words.{goal_of, is_set, lane_count_of, lanes_of, limits_of, number_if, number_in, number_or, plan_of};
 ghost use Rattle.command_words.specs.Words.{prove_of, query_of, required, serve_of, single_of, take_of, takes_none, verify_of, workers_of, write_of};
 
 use crate::apps::Name;
@@ -137,9 +137,9 @@ fn read_batch<'a>(matches: &ArgMatches<'a>, files: FileNames<'a>) -> Option<Batc
     })
 }
 
-#[tactic(auto, unfolding(crate::specs::Words::lanes_words_of))]
+#[tactic(auto, unfolding(crate::specs::Words::lanes_of))]
 fn read_lanes<'a>(matches: &ArgMatches<'a>, files: FileNames<'a>) -> Option<LanesWords<'a>>
-    ensures { result ≡ lanes_words_of (rows_of (found_of matches.now)) files.entry }
+    ensures { result ≡ lanes_of (rows_of (found_of matches.now)) files.entry }
 {
     Some(LanesWords {
         operator: value(matches, "operator")?,
@@ -289,7 +289,7 @@ fn read_workers(matches: &ArgMatches) -> Option<WorkerCount>
 
 /// How many lanes of sessions there are.
 fn read_count(matches: &ArgMatches) -> Option<LaneCount>
-    ensures { result ≡ lanes_of (rows_of (found_of matches.now)) }
+    ensures { result ≡ lane_count_of (rows_of (found_of matches.now)) }
 {
     number_or(matches, "lanes", DEFAULT_LANES)
 }

@@ -1,5 +1,5 @@
 -- What became of all doors, by what each lane did.
-use Rattle.std.proofs.Common.{◌≡◌, ℕ, ◌+◌, ◌≤◌, Bool, false, List, [], ◌∷◌, length, map, refl, ap, ap₂, sym, subst, ◌∙◌, arith, Result, Ok, Err, IfOk, OnOk}
+use Rattle.std.proofs.Common.{◌≡◌, ℕ, ◌+◌, ◌≤◌, Bool, false, List, [], ◌∷◌, length, map, refl, ap, ap₂, sym, subst, ◌∙◌, arith, Ok, Err}
 use Rattle.std.specs.Prelude.{cond, Option}
 use Rattle.core.specs.Option.{option_or}
 use Rattle.std.specs.List.{All, count_by, flat_map}
@@ -22,7 +22,7 @@ use Rattle.route_lanes.specs.declared.visits.DoorTally.{DoorTally}
 use Rattle.route_lanes.specs.DoorsServed.{OperatorServesDoor, SessionServesDoor, sum_of}
 use Rattle.route_lanes.specs.Served.{whole_of}
 use Rattle.route_lanes.specs.Services.{FirstAndAllServe, Service}
-use Rattle.route_lanes.specs.Serving.{DoorLane, FinishesLanes, IsDoorLane, IsFinished, IsSessionLane, ServesLanes, SessionVisit}
+use Rattle.route_lanes.specs.Serving.{DoorLane, IsDoorLane, IsFinished, IsSessionLane, ServesLanes, SessionVisit}
 use Rattle.route_lanes.specs.Visits.{ServesDoor, Visit, first_told, unvisited, want_among, want_of}
 use Rattle.route_lanes.proofs.ServingLemmas.{served_over}
 use Rattle.route_lanes.proofs.VisitLemmas.{before_visits, count_first, told_both}
@@ -123,22 +123,16 @@ map_twice : {A B C : Type 0} (f : B → C) (g : A → B) (xs : List A) → map f
 map_twice f g [] = refl
 map_twice f g (x ∷ xs) = ap (λ ys. f (g x) ∷ ys) (map_twice f g xs)
 
--- what holds of an answer, by what its parts say
-finishes_as : {Q : Type 0} (r : Result Served OutOfMemory) (A B : Served → Type 0) → ((served : Served) → A served → Q → B served)
-    → IfOk r A → OnOk r Q → IfOk r B
-finishes_as (Ok served) A B says a q = says served a q
-finishes_as (Err fault) A B says a q = a
-
 module _ (graph : Graph) (o : Origin) (weights : Weights) (first budget : ℕ) (policy : LinkPolicy) (first_is : o.first ≡ first) (base_is : o.base ≡ weights) where
   -- all doors were served
   pub serves_lanes : {T D : Type 0} (show : D → DoorState) (one one' : OperatorLane T DoorTally) (lanes lanes' : List (SessionLane T DoorTally))
-      (doors doors' : List D) (result : Result Served OutOfMemory)
+      (doors doors' : List D) (served : Served)
       → FirstAndAllServe (OperatorServesDoor show o policy)
       (SessionServesDoor show (record { graph = graph; origin = o; budget = budget }) policy) one lanes doors one' lanes' doors'
-      → IfOk result (λ served. served ≡ sum_of (one'.end ∷ map (λ lane. lane.end) lanes'))
-      → OnOk result (All (λ lane. IsPrefix lane.session.seen (whole_of one'.store)) lanes')
-      → ServesLanes graph weights first budget policy (map show doors) (map show doors') result
-  serves_lanes {T} {D} show one one' lanes lanes' doors doors' result is summed begins =
+      → served ≡ sum_of (one'.end ∷ map (λ lane. lane.end) lanes')
+      → All (λ lane. IsPrefix lane.session.seen (whole_of one'.store)) lanes'
+      → ServesLanes graph weights first budget policy (map show doors) (map show doors') (Ok served)
+  serves_lanes {T} {D} show one one' lanes lanes' doors doors' served is summed begins =
       let scene : Scene = record { graph = graph; origin = o; budget = budget } in
       let operator = is.served_first in
       let whole = closed_history operator.left in
@@ -150,7 +144,7 @@ module _ (graph : Graph) (o : Origin) (weights : Weights) (first budget : ℕ) (
       ap (map (λ (lane : SessionLane T DoorTally). lane.end)) is.served.parties_became
       ∙ map_twice (λ (lane : SessionLane T DoorTally). lane.end) (λ (s : Service (SessionLane T DoorTally) D). s.party_after) services ∙ rest.tallies_are in
       let tally = lane_tally _ _ operator.left (show is.first) (show is.first_after) one'.end operator.serves in
-      let total = ap sum_of (ap₂ ◌∷◌ tally tallies) ∙ sums (lead ∷ rest.lanes) in
+      let same = summed ∙ (ap sum_of (ap₂ ◌∷◌ tally tallies) ∙ sums (lead ∷ rest.lanes)) in
       record {
         origin = o;
         first_is = first_is;
@@ -166,15 +160,15 @@ module _ (graph : Graph) (o : Origin) (weights : Weights) (first budget : ℕ) (
             (lane_in_order _ _ operator.left (show is.first) (show is.first_after) one'.end operator.serves) rest.in_order;
         left = operator.left;
         operator_lane = operator.serves.led;
-        finishes = finishes_as result _ (FinishesLanes scene policy whole lead rest.lanes)
-            (λ served sum begin. let same = sum ∙ total in record {
-              finished = All-cons IsFinished lead rest.lanes operator.serves.ended rest.finished;
-              failed = ap (λ (s : Served). s.failed) same;
-              wants = ap (λ (s : Served). s.want) same;
-              session_lanes = rest.over (subst (λ (xs : List (SessionLane T DoorTally)). All (λ (x : SessionLane T DoorTally). IsPrefix x.session.seen whole) xs)
-                  is.served.parties_became
-                  (subst (λ (h : History). All (λ (x : SessionLane T DoorTally). IsPrefix x.session.seen h) lanes') closed begin));
-            }) summed begins;
+        unserved = tt;
+        finishes = record {
+          finished = All-cons IsFinished lead rest.lanes operator.serves.ended rest.finished;
+          failed = ap (λ (s : Served). s.failed) same;
+          wants = ap (λ (s : Served). s.want) same;
+          session_lanes = rest.over (subst (λ (xs : List (SessionLane T DoorTally)). All (λ (x : SessionLane T DoorTally). IsPrefix x.session.seen whole) xs)
+              is.served.parties_became
+              (subst (λ (h : History). All (λ (x : SessionLane T DoorTally). IsPrefix x.session.seen h) lanes') closed begins));
+        };
       }
 
   -- a door that wasn't asked
@@ -209,5 +203,6 @@ module _ (graph : Graph) (o : Origin) (weights : Weights) (first budget : ℕ) (
     in_order = idle_lanes (door ∷ doors);
     left = record { published = []; pending = [] };
     operator_lane = unvisited;
+    unserved = refl;
     finishes = tt;
   }

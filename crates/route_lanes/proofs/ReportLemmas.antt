@@ -1,5 +1,5 @@
 -- What is reported of lanes whose sessions have learnt the whole history.
-use Rattle.std.proofs.Common.{◌≡◌, ℕ, List, ◌++◌, length, map, take, drop, subst, Result, Ok, Err, IfOk, OnOk}
+use Rattle.std.proofs.Common.{◌≡◌, ℕ, List, ◌++◌, length, map, take, drop, subst}
 use Rattle.std.proofs.lemmas.Simd.{map-map}
 use Rattle.std.proofs.Math.Seq.{take-append_seam}
 use Rattle.arc_graph.specs.History.{History}
@@ -15,8 +15,3 @@ written_back xs ys n same = subst (λ (k : ℕ). take k (xs ++ drop (length xs) 
 pub reports_of_learnt : {T : Type 0} (last : ℕ) (whole : History) (lanes : List (SessionLane T SessionEnd))
     → map (report_of last) (map (learnt whole) lanes) ≡ map (report_of last) lanes
 reports_of_learnt last whole lanes = map-map (report_of last) (learnt whole) lanes
-
--- what holds of the answer, where something else is known as well
-pub ok_with : {T E Q : Type 0} (r : Result T E) (P R : T → Type 0) → ((x : T) → P x → Q → R x) → IfOk r P → OnOk r Q → IfOk r R
-ok_with (Ok x) P R both p q = both x p q
-ok_with (Err y) P R both p q = p

@@ -1,5 +1,5 @@
 -- What becomes of lanes that serve the links of doors beside each other, over one store: an operator's, and those of sessions.
-use Rattle.std.specs.Prelude.{◌≡◌, ℕ, ◌≤◌, Bool, false, List, [], ◌∷◌, Result, IfOk, map}
+use Rattle.std.specs.Prelude.{◌≡◌, ℕ, ◌≤◌, Bool, false, List, [], ◌∷◌, Result, IfOk, OnErr, map}
 use Rattle.std.specs.List.{All, AllPairs, count_by, flat_map}
 use Rattle.route_io.specs.Causes.{IsCounted}
 use Rattle.arc_graph.specs.Graph.{Graph, Weights}
@@ -73,8 +73,8 @@ pub record FinishesLanes (scene : Scene) (policy : LinkPolicy) (whole : History)
   pub session_lanes : All (IsSessionLane scene policy whole) sessions
 
 -- Lanes served their doors over one store, which began with this number and these weights, the operator's first: one link at
--- a time, each of the operator's from what the one before it had published. Unless memory ran out outside of all links,
--- they came to their end, and the history of all sessions is what the operator published, closed in the end.
+-- a time, each of the operator's from what the one before it had published. They came to their end, and the history of all
+-- sessions is what the operator published, closed in the end; or memory ran out before any door was asked for a link.
 pub record ServesLanes (graph : Graph) (weights : Weights) (first budget : ℕ) (policy : LinkPolicy) (before after : List DoorState)
     (result : Result Served OutOfMemory) : Type 0 where
   pub origin : Origin
@@ -87,5 +87,6 @@ pub record ServesLanes (graph : Graph) (weights : Weights) (first budget : ℕ) 
   pub in_order : All IsDoorLane (operator ∷ sessions)
   pub left : Operator
   pub operator_lane : Led (OperatorVisit origin policy) (record { published = []; pending = [] }) operator.visits left
+  pub unserved : OnErr result (after ≡ before)
   pub finishes : IfOk result (FinishesLanes (record { graph = graph; origin = origin; budget = budget }) policy
       (closed_history left) operator sessions)

@@ -1,4 +1,4 @@
-ghost use Rattle.std.specs.Prelude.{◌≡◌, ◌≤◌, [], All, IfOk, OnOk, length, map};
+ghost use Rattle.std.specs.Prelude.{◌≡◌, ◌≤◌, [], All, IfOk, OnErr, length, map, vec_len, vec_capacity};
 ghost use mathlib.Core.List.{IsPrefix};
 ghost use Rattle.road_network.specs.Limits.{max_budget};
 ghost use Rattle.arc_graph.specs.Graph.{Match};
@@ -60,8 +60,8 @@ impl FollowReport {
 /// on a thread of its own; where none can be started the caller's does its work. When the last feed has ended the store is
 /// closed, and each session's lane comes to the end of its history.
 ///
-/// It may wait: a publication for readers, and a session for an epoch. Where memory runs out outside of a lane, feeds may have
-/// been taken and links served in part.
+/// It may wait: a publication for readers, and a session for an epoch. All memory outside of the lanes is taken before any
+/// feed is taken and any link served.
 pub fn run_follow<
     R: Threads + Wait + Clock + Sync,
     G: Gate,
@@ -79,10 +79,12 @@ pub fn run_follow<
     requires budget { context.now.budget ≤ max_budget }
     requires some_session { 1 ≤ length links.old }
     requires at_most_16_sessions { length links.old ≤ 16 }
-    ensures { IfOk result (λ report. RunsFollow context.now.graph.now weights first
+    ensures served { IfOk result (λ report. RunsFollow context.now.graph.now weights first
         context.now.budget context.now.policy (map F.state feeds.old) (map F.state feeds.new)
         (map (λ l. record { from = S.state l.from; to = K.state l.to }) links.old)
         (map (λ l. record { from = S.state l.from; to = K.state l.to }) links.new) report) }
+    ensures untaken { OnErr result (feeds.new ≡ feeds.old) }
+    ensures unserved { OnErr result (links.new ≡ links.old) }
 {
     follow_in_store::<R, G, F, S, K, Brand>(
         context,
@@ -116,14 +118,17 @@ fn follow_in_store<
     requires search { CanSearch (scene_of context.now.graph.now T.origin context.now.budget) }
     requires some_session { 1 ≤ length links.old }
     requires at_most_16_sessions { length links.old ≤ 16 }
-    ensures { IfOk result (λ report. RunsFollow context.now.graph.now weights first
+    ensures served { IfOk result (λ report. RunsFollow context.now.graph.now weights first
         context.now.budget context.now.policy (map F.state feeds.old) (map F.state feeds.new)
         (map (λ l. record { from = S.state l.from; to = K.state l.to }) links.old)
         (map (λ l. record { from = S.state l.from; to = K.state l.to }) links.new) report) }
+    ensures untaken { OnErr result (feeds.new ≡ feeds.old) }
+    ensures unserved { OnErr result (links.new ≡ links.old) }
 {
     let reports = Vec::with_capacity(context.alloc, feeds.len())?;
     let lanes = Vec::with_capacity(context.alloc, links.len())?;
-    let (operator, readers) = make::<T>(
+    let (operator, readers) = make::<T, R>(
+        context.workers.rt(),
         context.alloc,
         chronicle,
         first,
@@ -137,7 +142,7 @@ fn follow_in_store<
     match session_lanes(context.alloc, readers, SessionEnd::Ended) {
         Ok(mut sessions) => {
             follow_and_serve(context, &mut follower, feeds, &mut sessions, links);
-            report_follow(context.workers.rt(), lanes, follower, sessions)
+            Ok(report_follow(context.workers.rt(), lanes, follower, sessions))
         }
         Err(want) => {
             let OperatorLane { store, end: _ } = follower;
@@ -194,23 +199,23 @@ fn follow_and_serve<
     );
 }
 
-/// Closes and ends the store, and makes the report. The list of the lanes' reports is empty before.
+/// Closes and ends the store, and makes the report. The list of the lanes' reports is empty before, and has room for all.
 fn report_follow<R: Wait, T: Store>(
     rt: &R,
     lanes: Vec<LaneReport>,
     follower: OperatorLane<T, Vec<FeedReport>>,
     mut sessions: Vec<SessionLane<T, SessionEnd>>,
-) -> Result<FollowReport, OutOfMemory>
-    requires { lanes.items ≡ [] }
-    ensures reports { IfOk result (λ all. all ≡ record {
+) -> FollowReport
+    requires none { lanes.items ≡ [] }
+    requires room { vec_len sessions ≤ vec_capacity lanes }
+    ensures reports { result ≡ record {
       feeds = follower.end.items;
       lanes = map (report_of (last_number T.origin (whole_of follower.store))) sessions.items;
-    }) }
-    ensures begins { OnOk result
-        (All (λ lane. IsPrefix lane.session.seen (whole_of follower.store)) sessions.items) }
+    } }
+    ensures begins { All (λ lane. IsPrefix lane.session.seen (whole_of follower.store)) sessions.items }
 {
     let OperatorLane { store, end: feeds } = follower;
-    let last = end_store(rt, store, &mut sessions)?;
-    let lanes = report_sessions(lanes, sessions, last)?;
-    Ok(FollowReport { feeds, lanes })
+    let last = end_store(rt, store, &mut sessions);
+    let lanes = report_sessions(lanes, sessions, last);
+    FollowReport { feeds, lanes }
 }

@@ -46,7 +46,14 @@ fn write_in_store<R: Wait, G, S: Source, K: Sink, O: Sink, T: Store>(
         (state_of S.state K.state link.old) (state_of S.state K.state link.new)
         (O.state out.old) (O.state out.new) result }
 {
-    let (mut operator, _readers) = make::<T>(context.alloc, chronicle, first, weights, 1)?;
+    let (mut operator, _readers) = make::<T, R>(
+        context.workers.rt(),
+        context.alloc,
+        chronicle,
+        first,
+        weights,
+        1,
+    )?;
     let written = write_published(context, &mut operator, link, out);
     operator
         .close(context.workers.rt())

@@ -1,4 +1,4 @@
-ghost use Rattle.std.specs.Prelude.{◌≡◌, ◌≤◌, [], ◌∷◌, All, IfOk, OnOk, length, map};
+ghost use Rattle.std.specs.Prelude.{◌≡◌, ◌+◌, ◌≤◌, [], ◌∷◌, All, IfOk, OnErr, length, map, vec_len, vec_capacity};
 ghost use mathlib.Core.List.{IsPrefix};
 ghost use Rattle.road_network.specs.Limits.{max_budget};
 ghost use Rattle.arc_graph.specs.Graph.{Match};
@@ -26,8 +26,8 @@ use std::time::Clock;
 /// can be started the caller's does its work. When the operator's link has ended the store is closed, and each session's lane
 /// comes to the end of its history.
 ///
-/// One report a link, in order. It may wait: a publication for readers, and a session for an epoch. Where memory runs out,
-/// links may have been served in part.
+/// One report a link, in order. It may wait: a publication for readers, and a session for an epoch. All memory outside of the
+/// lanes is taken before any of them is served.
 pub fn run_lanes<R: Threads + Wait + Clock + Sync, G: Gate, S: Source + Send, K: Sink + Send>(
     context: &ServeContext<'_, R, G>,
     weights: Weights,
@@ -38,11 +38,12 @@ pub fn run_lanes<R: Threads + Wait + Clock + Sync, G: Gate, S: Source + Send, K:
     requires budget { context.now.budget ≤ max_budget }
     requires some_session { 2 ≤ length links.old }
     requires at_most_16_sessions { length links.old ≤ 17 }
-    ensures { IfOk result (λ reports. RunsLanes context.now.graph.now weights first
+    ensures served { IfOk result (λ reports. RunsLanes context.now.graph.now weights first
         context.now.budget context.now.policy
         (map (λ l. record { from = S.state l.from; to = K.state l.to }) links.old)
         (map (λ l. record { from = S.state l.from; to = K.state l.to }) links.new)
         reports.items) }
+    ensures unserved { OnErr result (links.new ≡ links.old) }
 {
     run_in_store::<R, G, S, K, Brand>(context, Chronicle::default(), weights, first, links)
 }
@@ -67,15 +68,23 @@ fn run_in_store<
     requires search { CanSearch (scene_of context.now.graph.now T.origin context.now.budget) }
     requires some_session { 2 ≤ length links.old }
     requires at_most_16_sessions { length links.old ≤ 17 }
-    ensures { IfOk result (λ reports. RunsLanes context.now.graph.now weights first
+    ensures served { IfOk result (λ reports. RunsLanes context.now.graph.now weights first
         context.now.budget context.now.policy
         (map (λ l. record { from = S.state l.from; to = K.state l.to }) links.old)
         (map (λ l. record { from = S.state l.from; to = K.state l.to }) links.new)
         reports.items) }
+    ensures unserved { OnErr result (links.new ≡ links.old) }
 {
     let reports = Vec::with_capacity(context.alloc, links.len())?;
     let sessions = (links.len() - 1) as u32;
-    let (operator, readers) = make::<T>(context.alloc, chronicle, first, weights, sessions)?;
+    let (operator, readers) = make::<T, R>(
+        context.workers.rt(),
+        context.alloc,
+        chronicle,
+        first,
+        weights,
+        sessions,
+    )?;
     let mut operator = OperatorLane {
         store: StoreState::Open(operator),
         end: SessionEnd::Ended,
@@ -83,13 +92,13 @@ fn run_in_store<
     match session_lanes(context.alloc, readers, SessionEnd::Ended) {
         Ok(mut sessions) => {
             serve_links(context, &mut operator, &mut sessions, links);
-            report_lanes(
+            Ok(report_lanes(
                 context.workers.rt(),
                 context.alloc,
                 reports,
                 operator,
                 sessions,
-            )
+            ))
         }
         Err(want) => {
             let OperatorLane { store, end: _ } = operator;
@@ -99,30 +108,30 @@ fn run_in_store<
     }
 }
 
-/// Closes and ends the store, and makes the lanes' reports. The list of reports is empty before.
+/// Closes and ends the store, and makes the lanes' reports, in a list that is empty before.
 fn report_lanes<R: Wait, T: Store>(
     rt: &R,
     alloc: Global,
     mut reports: Vec<LaneReport>,
     operator: OperatorLane<T, SessionEnd>,
     mut sessions: Vec<SessionLane<T, SessionEnd>>,
-) -> Result<Vec<LaneReport>, OutOfMemory>
-    requires { reports.items ≡ [] }
-    ensures reports { IfOk result (λ all. all.items
+) -> Vec<LaneReport>
+    requires none { reports.items ≡ [] }
+    requires room { 1 + vec_len sessions ≤ vec_capacity reports }
+    ensures reports { result.items
         ≡ record {
           end = operator.end;
           last = last_number T.origin (whole_of operator.store);
           numbers = [];
-        } ∷ map (report_of (last_number T.origin (whole_of operator.store))) sessions.items) }
-    ensures begins { OnOk result
-        (All (λ lane. IsPrefix lane.session.seen (whole_of operator.store)) sessions.items) }
+        } ∷ map (report_of (last_number T.origin (whole_of operator.store))) sessions.items }
+    ensures begins { All (λ lane. IsPrefix lane.session.seen (whole_of operator.store)) sessions.items }
 {
     let OperatorLane { store, end } = operator;
-    let last = end_store(rt, store, &mut sessions)?;
-    reports.push(LaneReport {
+    let last = end_store(rt, store, &mut sessions);
+    reports.push_reserved(LaneReport {
         end,
         last,
         numbers: Vec::new(alloc),
-    })?;
+    });
     report_sessions(reports, sessions, last)
 }

@@ -1,4 +1,4 @@
-ghost use Rattle.std.specs.Prelude.{◌≡◌, ◌≤◌, ◌∷◌, All, IfOk, OnOk, length, map};
+ghost use Rattle.std.specs.Prelude.{◌≡◌, ◌≤◌, ◌∷◌, All, length, map};
 ghost use mathlib.Core.List.{IsPrefix};
 ghost use Rattle.road_network.specs.Limits.{max_budget};
 ghost use Rattle.arc_graph.specs.Graph.{Match};
@@ -76,7 +76,14 @@ fn serve_in_store<
         (map D.state doors.old) (map D.state doors.new) result }
 {
     let sessions = (doors.len() - 1) as u32;
-    let (operator, readers) = make::<T>(context.alloc, chronicle, first, weights, sessions)?;
+    let (operator, readers) = make::<T, R>(
+        context.workers.rt(),
+        context.alloc,
+        chronicle,
+        first,
+        weights,
+        sessions,
+    )?;
     let mut operator = OperatorLane {
         store: StoreState::Open(operator),
         end: DoorTally::NEW,
@@ -84,7 +91,7 @@ fn serve_in_store<
     match session_lanes(context.alloc, readers, DoorTally::NEW) {
         Ok(mut sessions) => {
             serve_doors(context, &mut operator, &mut sessions, doors);
-            finish(context.workers.rt(), operator, sessions)
+            Ok(finish(context.workers.rt(), operator, sessions))
         }
         Err(want) => {
             let OperatorLane { store, end: _ } = operator;
@@ -99,16 +106,14 @@ fn finish<R: Wait, T: Store>(
     rt: &R,
     operator: OperatorLane<T, DoorTally>,
     mut sessions: Vec<SessionLane<T, DoorTally>>,
-) -> Result<Served, OutOfMemory>
-    ensures sums { IfOk result (λ served. served
-        ≡ sum_of (operator.end ∷ map (λ lane. lane.end) sessions.items)) }
-    ensures begins { OnOk result
-        (All (λ lane. IsPrefix lane.session.seen (whole_of operator.store)) sessions.items) }
+) -> Served
+    ensures sums { result ≡ sum_of (operator.end ∷ map (λ lane. lane.end) sessions.items) }
+    ensures begins { All (λ lane. IsPrefix lane.session.seen (whole_of operator.store)) sessions.items }
 {
     let OperatorLane { store, end } = operator;
     let served = sum_up(end, &sessions);
-    end_store(rt, store, &mut sessions)?;
-    Ok(served)
+    end_store(rt, store, &mut sessions);
+    served
 }
 
 /// Sums up what became of the operator's door and those of the sessions.

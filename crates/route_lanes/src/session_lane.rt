@@ -1,7 +1,8 @@
 //! The lanes of sessions.
-ghost use Rattle.std.specs.Prelude.{◌≡◌, [], ◌++◌, All, IfOk, OnOk, map, vec_len};
+ghost use Rattle.std.specs.Prelude.{◌≡◌, ◌+◌, ◌≤◌, ◌++◌, All, IfOk, map, vec_len, vec_capacity};
 ghost use mathlib.Core.List.{IsPrefix};
 ghost use Rattle.epoch_store.specs.Origin.{last_number};
+ghost use Rattle.epoch_store.specs.Readers.{unread};
 ghost use Rattle.session_core.specs.Answering.{CanSearch, scene_of};
 ghost use Rattle.route_lanes.specs.Served.{IsFresh, SessionServes, learnt, report_of, whole_of};
 ghost use Rattle.link_doors.specs.Links.{state_of};
@@ -52,11 +53,11 @@ impl<T: Store> SessionLane<T, SessionEnd> {
 
 impl<T: Store, E> SessionLane<T, E> {
     /// Goes on to the last epoch of a store that is closed.
-    fn learn(&mut self, ended: &Ended<T>) -> Result<(), OutOfMemory>
-        ensures learnt { OnOk result (self.new ≡ learnt ended.now self.old) }
-        ensures begins { OnOk result (IsPrefix self.old.session.seen ended.now) }
+    fn learn<R: Wait>(&mut self, rt: &R, ended: &Ended<T>)
+        ensures learnt { self.new ≡ learnt ended.now self.old }
+        ensures begins { IsPrefix self.old.session.seen ended.now }
     {
-        self.session.learn(ended)
+        self.session.learn(rt, ended);
     }
 }
 
@@ -66,7 +67,7 @@ pub(crate) fn session_lanes<T: Store, E: Copy>(
     readers: Vec<EpochReader<T>>,
     end: E,
 ) -> Result<Vec<SessionLane<T, E>>, OutOfMemory>
-    requires unread { All (λ h. h ≡ []) readers.items }
+    requires unread { All (λ x. x ≡ unread) readers.items }
     ensures count { IfOk result (λ lanes. vec_len lanes ≡ vec_len readers) }
     ensures fresh { IfOk result (λ lanes. All (λ lane. IsFresh lane.session) lanes.items) }
 {
@@ -82,18 +83,13 @@ pub(crate) fn session_lanes<T: Store, E: Copy>(
 }
 
 /// Goes on to the last epoch of a store that is closed, in each lane.
-fn learn_all<T: Store, E>(
-    lanes: &mut [SessionLane<T, E>],
-    ended: &Ended<T>,
-) -> Result<(), OutOfMemory>
-    ensures learnt { OnOk result (lanes.new ≡ map (learnt ended.now) lanes.old) }
-    ensures begins { OnOk result
-        (All (λ lane. IsPrefix lane.session.seen ended.now) lanes.old) }
+fn learn_all<T: Store, R: Wait, E>(rt: &R, lanes: &mut [SessionLane<T, E>], ended: &Ended<T>)
+    ensures learnt { lanes.new ≡ map (learnt ended.now) lanes.old }
+    ensures begins { All (λ lane. IsPrefix lane.session.seen ended.now) lanes.old }
 {
     for k in 0..lanes.len() {
-        lanes[k].learn(ended)?;
+        lanes[k].learn(rt, ended);
     }
-    Ok(())
 }
 
 /// Closes and ends a store, once each of these lanes has gone on to its last epoch, and answers the number of that epoch.
@@ -101,30 +97,27 @@ pub(crate) fn end_store<T: Store, R: Wait, E>(
     rt: &R,
     store: StoreState<T>,
     lanes: &mut [SessionLane<T, E>],
-) -> Result<u32, OutOfMemory>
-    ensures last { IfOk result (λ n. n ≡ last_number T.origin (whole_of store)) }
-    ensures learnt { OnOk result (lanes.new ≡ map (learnt (whole_of store)) lanes.old) }
-    ensures begins { OnOk result
-        (All (λ lane. IsPrefix lane.session.seen (whole_of store)) lanes.old) }
+) -> u32
+    ensures last { result ≡ last_number T.origin (whole_of store) }
+    ensures learnt { lanes.new ≡ map (learnt (whole_of store)) lanes.old }
+    ensures begins { All (λ lane. IsPrefix lane.session.seen (whole_of store)) lanes.old }
 {
     let ended = store.close(rt);
-    let learnt = learn_all(lanes, &ended);
-    let last = ended.end(rt);
-    learnt?;
-    Ok(last)
+    learn_all(rt, lanes, &ended);
+    ended.end(rt)
 }
 
-/// Adds what is reported of each of these lanes, where the last epoch has this number.
+/// Adds what is reported of each of these lanes, where the last epoch has this number, in room that was taken before.
 pub(crate) fn report_sessions<T: Store>(
     mut reports: Vec<LaneReport>,
     lanes: Vec<SessionLane<T, SessionEnd>>,
     last: u32,
-) -> Result<Vec<LaneReport>, OutOfMemory>
-    ensures { IfOk result (λ all. all.items
-        ≡ reports.items ++ map (report_of last) lanes.items) }
+) -> Vec<LaneReport>
+    requires room { vec_len reports + vec_len lanes ≤ vec_capacity reports }
+    ensures { result.items ≡ reports.items ++ map (report_of last) lanes.items }
 {
     for lane in lanes {
-        reports.push(lane.report(last))?;
+        reports.push_reserved(lane.report(last));
     }
-    Ok(reports)
+    reports
 }

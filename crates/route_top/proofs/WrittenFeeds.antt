@@ -13,6 +13,7 @@ use Rattle.arc_graph.specs.Agreement.{joined}
 use Rattle.arc_graph.specs.Files.{ArcFile}
 use Rattle.arc_graph.specs.Graph.{Graph, IsGraph}
 use Rattle.arc_graph.specs.History.{History, IsPublished, ends_closed, sets}
+use Rattle.gr_reader.specs.declared.weights.Sizes.{Sizes}
 use Rattle.gr_reader.specs.Grammar.{IsGr, weights}
 use Rattle.gr_reader.proofs.LawsLemmas.{is_decided}
 use Rattle.epoch_store.proofs.PrefixLemmas.{prefix_self, prefix_trans}
@@ -46,19 +47,19 @@ use Rattle.route_top.proofs.LeaderFeeds.{after_keeps, one_keeps, written_comes}
 -- one outcome has it
 only_done : (outcome : Outcome) → 0 ≡ status_of outcome → outcome ≡ done
 only_done done e = refl
-only_done bad_words e = absurd cc
-only_done (folder_failed name) e = absurd cc
-only_done out_failed e = absurd cc
-only_done (bad_file name line kind) e = absurd cc
-only_done (bad_files way) e = absurd cc
-only_done (bad_pairs name line kind) e = absurd cc
-only_done (script_too_long name) e = absurd cc
-only_done (bad_cert name line) e = absurd cc
-only_done (failed_rule name rule label) e = absurd cc
-only_done town_failed e = absurd cc
-only_done refused e = absurd cc
-only_done no_memory e = absurd cc
-only_done out_wanted e = absurd cc
+only_done bad_words e = absurd (omega (arith, e))
+only_done (folder_failed name) e = absurd (omega (arith, e))
+only_done out_failed e = absurd (omega (arith, e))
+only_done (bad_file name line kind) e = absurd (omega (arith, e))
+only_done (bad_files way) e = absurd (omega (arith, e))
+only_done (bad_pairs name line kind) e = absurd (omega (arith, e))
+only_done (script_too_long name) e = absurd (omega (arith, e))
+only_done (bad_cert name line) e = absurd (omega (arith, e))
+only_done (failed_rule name rule label) e = absurd (omega (arith, e))
+only_done town_failed e = absurd (omega (arith, e))
+only_done refused e = absurd (omega (arith, e))
+only_done no_memory e = absurd (omega (arith, e))
+only_done out_wanted e = absurd (omega (arith, e))
 
 module _ (words : List (List ℕ)) (files : FileMap) (asked : Command) (is : Asks words asked) where
   asks_so : {outcome : Outcome} {text : List ℕ} {told : Option FileMap} → EndsByWords Ends (Asks words) told outcome text → told ≡ Some files
@@ -120,7 +121,7 @@ module _ (After : Network → List (List ℕ) → Outcome → List ℕ → Type 
 same_file : (bytes : List ℕ) (a b : ArcFile) → IsGr reading_limits bytes a.nodes a.arcs → IsGr reading_limits bytes b.nodes b.arcs → a ≡ b
 same_file bytes a b x y =
     let same = (is_decided weights reading_limits bytes).one_file _ _ a.arcs b.arcs x y in
-    let nodes : a.nodes ≡ b.nodes = ap (λ s. s.nodes) same.0 in
+    let nodes : a.nodes ≡ b.nodes = ap (λ (s : Sizes). s.nodes) same.0 in
     ap₂ (λ (n : ℕ) (arcs : List ArcLine). record { nodes = n; arcs = arcs }) nodes same.1
 
 module _ (files others : FileMap) where

@@ -99,11 +99,12 @@ fn take_feeds<'a, R: Threads + Wait + Clock + Sync, G: Gate, F: Folder, K: Sink>
     let (mut feeds, mut links) = read_all(alloc, folder, asked)?;
     let helpers = Helpers::new();
     let workers = Workers::new(rt, asked.limits.workers.get(), gate).watched(&helpers);
+    let budget = asked.limits.budget.get();
     let context = ServeContext {
         workers: &workers,
         alloc,
         graph: &graph,
-        budget: asked.limits.budget.get(),
+        budget,
         policy: SCRIPT_POLICY,
     };
     prove!(asked.count.get() >= 1);
@@ -226,7 +227,7 @@ fn put_feed_line<K: Sink>(out: &mut K, number: u64, report: &FeedReport) -> Resu
         FeedEnd::Gap { line } => put_end_at(out, number, " gap", line, report.number),
         FeedEnd::Long => put_end(out, number, " long", report.number),
         FeedEnd::Read => put_end(out, number, " read", report.number),
-        FeedEnd::OutOfMemory => put_end(out, number, " memory", report.number),
+        FeedEnd::OutOfMemory(_) => put_end(out, number, " memory", report.number),
     }
 }
 

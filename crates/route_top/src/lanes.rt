@@ -55,11 +55,12 @@ pub(crate) fn run<'a, R: Threads + Wait + Clock + Sync, G: Gate, F: Folder, K: S
     let mut links = read_scripts(alloc, folder, asked)?;
     let helpers = Helpers::new();
     let workers = Workers::new(rt, asked.limits.workers.get(), gate).watched(&helpers);
+    let budget = asked.limits.budget.get();
     let context = ServeContext {
         workers: &workers,
         alloc,
         graph: &graph,
-        budget: asked.limits.budget.get(),
+        budget,
         policy: SCRIPT_POLICY,
     };
     prove!(asked.count.get() >= 1);

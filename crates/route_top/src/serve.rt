@@ -56,11 +56,12 @@ pub(crate) fn run<'a, R: Threads + Wait + Clock + Sync, G: Gate, F: Folder, K: S
     let (graph, weights) = read_network(alloc, folder, &asked.files)?;
     let helpers = Helpers::new();
     let workers = Workers::new(rt, asked.limits.workers.get(), gate).watched(&helpers);
+    let budget = asked.limits.budget.get();
     let context = ServeContext {
         workers: &workers,
         alloc,
         graph: &graph,
-        budget: asked.limits.budget.get(),
+        budget,
         policy: SERVE_POLICY,
     };
     serve_town(&context, weights, asked, out, town)
@@ -84,7 +85,8 @@ fn serve_town<'a, R: Threads + Wait + Clock + Sync, G: Gate, K: Sink, T: Town>(
         (T.state town.old) (T.state town.new) (K.state out.old) (K.state out.new)
         (run_outcome result) }
 {
-    let (lanes, links) = (asked.lanes.get(), asked.links.get());
+    let lanes = asked.lanes.get();
+    let links = asked.links.get();
     let mut doors = town.listen(asked.listen.text(), asked.operator.text(), lanes, links)?;
     let served = serve_doors(context, weights, asked, out, &mut doors);
     town.take_back(doors);
@@ -109,7 +111,8 @@ fn serve_doors<'a, R: Threads + Wait + Clock + Sync, G: Gate, K: Sink, D: Door +
         (K.state out.old) (K.state out.new) (run_outcome result) }
 {
     prove!(asked.limits.budget.get() >= 1);
-    put_ready(out, asked.lanes.get())?;
+    let lanes = asked.lanes.get();
+    put_ready(out, lanes)?;
     end_of(serve_lanes(context, weights, asked.epoch, doors))
 }
 

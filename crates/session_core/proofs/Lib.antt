@@ -4,6 +4,7 @@ mod WindowLemmas
 mod LineKindLemmas
 mod AnswersLineLemmas
 pub mod StayLemmas
+mod WaitLemmas
 mod RunLemmas
 mod OperatorRunLemmas
 mod LinesLemmas

@@ -1,5 +1,5 @@
 -- What a session does for one line: what it needs, what it sees, and what it sends.
-use Rattle.std.specs.Prelude.{◌≡◌, ℕ, ◌≤◌, ◌⊎◌, ⊤, true, List, [], ◌∷◌, ◌++◌, Result, Ok, Err}
+use Rattle.std.specs.Prelude.{◌≡◌, ℕ, ◌<◌, ◌≤◌, ◌⊎◌, ⊤, true, false, List, [], ◌∷◌, ◌++◌, Result, Ok, Err}
 use mathlib.Core.List.{IsPrefix}
 use Rattle.road_network.specs.Limits.{max_budget}
 use Rattle.arc_graph.specs.Graph.{Graph, Match}
@@ -9,6 +9,7 @@ use Rattle.route_io.specs.declared.fault.WriteFault.{WriteFault}
 use Rattle.session_core.specs.declared.fault.ReplyFault.{ReplyFault}
 use Rattle.session_core.specs.declared.fault.ReplyFault.TheVariants as fault
 use Rattle.epoch_store.specs.Origin.{Origin, IsPublishedIn, last_number}
+use Rattle.epoch_store.specs.Readers.{EpochReader}
 use Rattle.session_requests.specs.declared.session.SessionRequest.{SessionRequest}
 use Rattle.session_requests.specs.declared.session.SessionRequest.TheVariants as asks
 use Rattle.session_core.specs.declared.handler.Answered.{Answered}
@@ -27,6 +28,18 @@ pub record CanSearch (scene : Scene) : Type 0 where
 -- what was seen is as before, or goes on from there, and was published
 abbrev pub SeesOn : Origin → History → History → Type 0
 SeesOn o before after = (after ≡ before) ⊎ (IsPrefix before after × IsPublishedIn o after)
+
+-- it looked at the epochs since, unless it knew before that no further one will come
+abbrev pub LooksAnew : EpochReader → EpochReader → Type 0
+LooksAnew before after = ends_closed before.seen ≡ false → before.looks < after.looks
+
+-- more epochs may come as before, and no look was undone
+abbrev pub Waits : EpochReader → EpochReader → Type 0
+Waits before after = ends_closed before.seen ≡ false → (ends_closed after.seen ≡ false) × (before.looks ≤ after.looks)
+
+-- the longest that a wait sleeps between two looks, in nanoseconds: 20 milliseconds
+abbrev pub longest_nap : ℕ
+longest_nap = 20000000
 
 -- the epoch of a wait has come, or no more are to come
 abbrev pub HasCome : Origin → History → ℕ → Type 0

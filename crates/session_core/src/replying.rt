@@ -13,6 +13,7 @@ ghost use Rattle.session_core.specs.Sessions.{RepliesTo};
 use crate::answerer::Answerer;
 use crate::context::ServeContext;
 use crate::fault::ReplyFault;
+use crate::look::Looked;
 use crate::mode::SearchMode;
 use crate::short::{put_closed, put_epoch};
 use arc_graph::Network;
@@ -25,10 +26,11 @@ use std::thread::Threads;
 use walk_readback::Room;
 
 impl<R: Threads + Sync, G: Gate> ServeContext<'_, R, G> {
-    /// Sends the reply to a request at the last epoch that was seen.
+    /// Sends the reply to a request at the last epoch that was seen, once it was looked for.
     pub(crate) fn reply<T: Store, K: Sink>(
         &self,
         reader: &EpochReader<T>,
+        looked: &Looked,
         request: &SessionRequest,
         room: &mut Room,
         out: &mut K,
@@ -36,9 +38,10 @@ impl<R: Threads + Sync, G: Gate> ServeContext<'_, R, G> {
         requires search { CanSearch (scene_of self.now.graph.now T.origin self.now.budget) }
         requires limit { LimitsEach self.now.graph.now.criteria request.now }
         requires no_bye { request.now ≢ asks.Bye }
-        requires come { MayReply T.origin reader.now request.now }
+        requires looked { looked.now ≡ last_number T.origin reader.now.seen }
+        requires come { MayReply T.origin reader.now.seen request.now }
         ensures { RepliesOneOf (RepliesTo (scene_of self.now.graph.now T.origin self.now.budget)
-            reader.now (last_number T.origin reader.now) request.now)
+            reader.now.seen (last_number T.origin reader.now.seen) request.now)
             (K.state out.old) (K.state out.new) result }
     {
         use AnswerKind::{Costs, Walks};
@@ -66,15 +69,15 @@ impl<R: Threads + Sync, G: Gate> ServeContext<'_, R, G> {
                 self.search(last, Goal, Walks, &query, room, out)
             }
             SessionRequest::Wait { epoch } => {
-                if last.number < epoch {
-                    put_closed(out, last.number)?;
+                if looked.number() < epoch {
+                    put_closed(out, looked.number())?;
                 } else {
-                    put_epoch(out, last.number)?;
+                    put_epoch(out, looked.number())?;
                 }
                 Ok(())
             }
             SessionRequest::Epoch => {
-                put_epoch(out, last.number)?;
+                put_epoch(out, looked.number())?;
                 Ok(())
             }
             SessionRequest::Bye => unreachable!(),

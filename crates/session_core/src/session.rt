@@ -1,9 +1,8 @@
-ghost use Rattle.std.specs.Prelude.{◌≡◌, ◌≢◌, ◌≤◌, ℕ, List, [], IfOk, OnOk, OnErr};
+ghost use Rattle.std.specs.Prelude.{◌≡◌, ◌≢◌, ◌≤◌, ℕ, List, [], IfOk};
 ghost use mathlib.Core.List.{IsPrefix};
 ghost use Rattle.cost_vector.specs.Costs.{max_criteria, min_criteria};
 ghost use Rattle.road_network.specs.Limits.{max_budget};
 ghost use Rattle.arc_graph.specs.Graph.{Match};
-ghost use Rattle.epoch_store.specs.Origin.{IsPublishedIn, last_number};
 ghost use Rattle.session_requests.specs.Requests.{AsksOfSession, LimitsEach};
 ghost use Rattle.session_requests.specs.declared.line.Line.TheVariants as line;
 ghost use Rattle.session_requests.specs.declared.session.SessionRequest.{SessionRequest as Asked};
@@ -48,7 +47,7 @@ impl<T: Store> Model for Session<T> {
 
     ghost Value = { Session };
 
-    ghost view = { λ s. record { seen = s.reader; named = s.named.items } };
+    ghost view = { λ s. record { seen = s.reader.seen; named = s.named.items } };
 }
 
 impl<T: Store, R, G> LineHandler<ServeContext<'_, R, G>> for Session<T> {
@@ -89,7 +88,7 @@ fn answered(sent: Result<(), ReplyFault>) -> Result<Answered, ReplyFault>
 impl<T: Store> Session<T> {
     /// A session that has named no epoch.
     pub fn new(alloc: Global, reader: EpochReader<T>) -> Result<Session<T>, OutOfMemory>
-        ensures { IfOk result (λ s. s ≡ record { seen = reader; named = [] }) }
+        ensures { IfOk result (λ s. s ≡ record { seen = reader.seen; named = [] }) }
     {
         Ok(Session {
             reader,
@@ -195,38 +194,19 @@ impl<T: Store> Session<T> {
         if let Err(want) = self.named.reserve(1) {
             return Err(ReplyFault::OutOfMemory(want.into()));
         }
-        let number = look_for(&mut self.reader, context.workers.rt(), request)?;
-        let replied = context.reply(&self.reader, request, &mut self.room, to);
+        let looked = look_for(&mut self.reader, context.workers.rt(), request);
+        let replied = context.reply(&self.reader, &looked, request, &mut self.room, to);
         if !matches!(replied, Err(ReplyFault::OutOfMemory(_))) {
-            self.named.push_reserved(number);
+            self.named.push_reserved(looked.number());
         }
         replied
     }
 
-    /// Looks at what is published.
-    pub fn look(&mut self) -> Result<(), OutOfMemory>
-        ensures begins { IsPrefix self.old.seen self.new.seen }
-        ensures unchanged { OnErr result (self.new ≡ self.old) }
-        ensures named { self.new.named ≡ self.old.named }
-    {
-        self.reader.read()
-    }
-
-    /// The number of the last epoch that was seen.
-    pub fn last(&self) -> u32
-        ensures number { result ≡ last_number T.origin self.now.seen }
-        ensures published { IsPublishedIn T.origin self.now.seen }
-    {
-        self.reader.snapshot().number
-    }
-
     /// Goes on to the last epoch of a store that is closed.
-    pub fn learn(&mut self, ended: &Ended<T>) -> Result<(), OutOfMemory>
-        ensures learnt { OnOk result (self.new.seen ≡ ended.now) }
-        ensures begins { IsPrefix self.old.seen self.new.seen }
-        ensures named { self.new.named ≡ self.old.named }
-        ensures unchanged { OnErr result (self.new ≡ self.old) }
+    pub fn learn<R: Wait>(&mut self, rt: &R, ended: &Ended<T>)
+        ensures learnt { self.new ≡ record self.old { seen = ended.now } }
+        ensures begins { IsPrefix self.old.seen ended.now }
     {
-        self.reader.learn(ended)
+        self.reader.learn(rt, ended);
     }
 }

@@ -1,7 +1,7 @@
 """The program's commands and sessions as Python calls with typed results.
 
 `Program` runs the commands of `./route`; `Session` and `Operator` speak to a running `route
-serve` over TCP. This package needs nothing beyond Python's own library, and can be copied alone.
+serve`, over TCP or by its socket file. This package needs nothing beyond Python's own library, and can be copied alone.
 """
 
 from __future__ import annotations
@@ -38,10 +38,11 @@ from .lines import (
     write_lines,
 )
 from .program import DEFAULT_BUDGET, MOST_BUDGET, Files, LanesRun, Program, Proof
-from .server import Server, free_ports, parse_address, serving
+from .server import Address, Server, free_ports, parse_address, serving
 from .sessions import Operator, Session
 
 __all__ = [
+    "Address",
     "Answer",
     "Change",
     "ClientError",

@@ -1,8 +1,7 @@
-"""Sessions and the operator's session with a running server, over TCP."""
+"""Sessions and the operator's session with a running server, over TCP or by its socket file."""
 
 from __future__ import annotations
 
-import socket
 from collections.abc import Iterator, Sequence
 from contextlib import contextmanager, suppress
 
@@ -28,20 +27,19 @@ from .lines import (
     Wait,
     answered,
 )
+from .server import Address
 
 
 class _Link:
     """One connection: a line is sent, and its reply is read whole or the link is closed."""
 
-    def __init__(self, host: str, port: int, timeout: float | None = 60.0) -> None:
+    def __init__(self, address: Address, timeout: float | None) -> None:
         try:
-            self._socket = socket.create_connection((host, port), timeout)
+            self._socket = address.connect(timeout)
         except TimeoutError as late:
-            raise TimedOut(f"{host}:{port} doesn't answer") from late
+            raise TimedOut(f"{address} doesn't answer") from late
         except OSError as fault:
-            raise ClientError(
-                f"{host}:{port} can't be reached: {fault.strerror or fault}"
-            ) from fault
+            raise ClientError(f"{address} can't be reached: {fault.strerror or fault}") from fault
         self._file = self._socket.makefile("r", encoding="ascii", newline="\n")
         self.replies = Replies(self._lines(), 0)
 
@@ -82,11 +80,12 @@ class _Link:
 
 class Session:
     """A session with a running server. `with Session(host, port) as s: s.query(1, 4,
-    limits=(None, 7))`
+    limits=(None, 7))`. A host `unix:PATH` is a socket file, and has no port.
     """
 
-    def __init__(self, host: str, port: int, timeout: float | None = 60.0) -> None:
-        self._link, self._timeout, self._criteria = _Link(host, port, timeout), timeout, 0
+    def __init__(self, host: str, port: int = 0, timeout: float | None = 60.0) -> None:
+        self._link, self._timeout = _Link(Address(host, port), timeout), timeout
+        self._criteria = 0
 
     def __enter__(self) -> Session:
         return self
@@ -149,11 +148,11 @@ class Session:
 
 class Operator:
     """The operator's session with a running server. Changes come with the next `publish`, all at
-    once.
+    once. A host `unix:PATH` is a socket file, and has no port.
     """
 
-    def __init__(self, host: str, port: int, timeout: float | None = 60.0) -> None:
-        self._link = _Link(host, port, timeout)
+    def __init__(self, host: str, port: int = 0, timeout: float | None = 60.0) -> None:
+        self._link = _Link(Address(host, port), timeout)
 
     def __enter__(self) -> Operator:
         return self

@@ -1,4 +1,4 @@
-use Rattle.std.proofs.Common.{refl, subst, sym}
+use Rattle.std.proofs.Common.{refl, rules, subst, sym}
 use Rattle.std.specs.Prelude.{get_or}
 use Rattle.std.proofs.lemmas.List.Elements.{Contains-get_or}
 use Rattle.command_words.specs.Words.{Asks, names_of, texts_of}
@@ -32,19 +32,19 @@ returns-in-Ok-Waiting-clause-town g c =
     let asks = subst (λ (k : Command). Asks (texts_of c.args.words.now) k) c.in-Ok-Waiting.field-0-is c.in-Ok-Waiting.ensures in
     town_by (texts_of c.args.words.now) _ _ _ _ _ (Waiting c.in-Ok-Waiting.command) asks c.run_waiting.ensures.town
 
-pub returns-in-Err-clause-runs : goal.returns-in-Err-clause-runs
-returns-in-Err-clause-runs g c =
+pub returns-clause-runs : goal.returns-clause-runs
+returns-clause-runs g c =
     nothing_read Ends (Asks (texts_of c.args.words.now)) (texts_of c.args.words.now) _ _ c.in-Err.fault c.in-Err.ensures
     (λ none asks. let also = asks.1 in cc)
 
-pub returns-in-Err-clause-town : goal.returns-in-Err-clause-town
-returns-in-Err-clause-town g c = town_unread (texts_of c.args.words.now) _ _ _ _ _ c.in-Err.fault c.in-Err.ensures refl refl
+pub returns-clause-town : goal.returns-clause-town
+returns-clause-town g c = town_unread (texts_of c.args.words.now) _ _ _ _ _ c.in-Err.fault c.in-Err.ensures refl refl
 
 pub carry_out-requires : goal.carry_out-requires
-carry_out-requires g c = λ κs within k d there.
+carry_out-requires g c =
     let asks = subst (λ (k : Command). Asks (texts_of c.args.words.now) k) c.in-Ok-Still.field-0-is c.in-Ok-Still.ensures in
     let names = names_of (Still c.in-Ok-Still.command) in
-    c.requires.admitted (get_or names k d) (Still c.in-Ok-Still.command, asks, Contains-get_or names k d there)
+    (search rules, (search rules, λ k d there. c.requires.admitted (get_or names k d) (Still c.in-Ok-Still.command, asks, Contains-get_or names k d there)))
 
 pub run_waiting-requires-clause-admitted : goal.run_waiting-requires-clause-admitted
 run_waiting-requires-clause-admitted g c = λ κs within k d there.

@@ -84,7 +84,7 @@ fn follow_in<S: Store, R: Wait + Abort>(
     requires weights { weights ≡ S.origin.base }
     requires matched { Match graph.now S.origin.base }
 {
-    let (mut operator, _readers) = make::<S>(alloc, chronicle, 0, weights, 1)?;
+    let (mut operator, _readers) = make::<S, R>(rt, alloc, chronicle, 0, weights, 1)?;
     let taken = take_all(rt, alloc, &mut operator, graph, feeds);
     let mut sink = MemorySink::new(alloc, u64::MAX, Vec::new(alloc));
     let sent = put_feed(&mut sink, &operator, graph);

@@ -1,7 +1,7 @@
-use Rattle.std.proofs.Common.{◌≡◌, Some, refl, subst}
+use Rattle.std.proofs.Common.{refl, rules, subst}
 use Rattle.std.specs.Prelude.{get_or}
 use Rattle.std.proofs.lemmas.List.Elements.{Contains-get_or}
-use Rattle.command_words.specs.Words.{Asks, asked, names_of_still, texts_of}
+use Rattle.command_words.specs.Words.{Asks, names_of_still, texts_of}
 use Rattle.command_words.specs.declared.commands.Command.{Command}
 use Rattle.still_commands.specs.Outcome.{bad_words}
 use Rattle.still_commands.specs.Output.{AsksStill, EndsByWords, StillEnds, no_command}
@@ -22,14 +22,14 @@ returns-in-Ok-Waiting g c =
     nothing_sent (EndsByWords StillEnds (AsksStill words) _) bad_words _ _ _ (record { no_fault = refl; no_want = refl })
     (no_command (λ still. let also = still.1 in cc)) (stays _)
 
-pub returns-in-Err : goal.returns-in-Err
-returns-in-Err g c =
+pub returns : goal.returns
+returns g c =
     nothing_read StillEnds (AsksStill (texts_of c.args.words.now)) (texts_of c.args.words.now) _ _ c.in-Err.fault c.in-Err.ensures
     (λ none still. let also = still.1 in cc)
 
 pub carry_out-requires : goal.carry_out-requires
-carry_out-requires g c = λ κs within k d there.
+carry_out-requires g c =
     let words = texts_of c.args.words.now in
     let asks = subst (λ (k : Command). Asks words k) c.in-Ok-Still.field-0-is c.in-Ok-Still.ensures in
     let names = names_of_still c.in-Ok-Still.command in
-    c.requires (get_or names k d) (c.in-Ok-Still.command, asks, Contains-get_or names k d there)
+    (search rules, (search rules, λ k d there. c.requires (get_or names k d) (c.in-Ok-Still.command, asks, Contains-get_or names k d there)))

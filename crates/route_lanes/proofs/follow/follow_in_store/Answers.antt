@@ -8,12 +8,12 @@ use Rattle.session_core.specs.declared.end.SessionEnd.{SessionEnd}
 use Rattle.route_lanes.specs.Served.{SessionServes, report_of, whole_of}
 use Rattle.route_lanes.specs.declared.session_lane.SessionLane.{SessionLane}
 use Rattle.route_lanes.proofs.FollowLemmas.{runs_follow}
-use Rattle.route_lanes.proofs.ReportLemmas.{ok_with, written_back}
+use Rattle.route_lanes.proofs.ReportLemmas.{written_back}
 use Rattle.route_lanes.proofs.SaidLemmas.{as_many_parties}
 use Rattle.route_lanes.proofs.follow.follow_in_store.Goals as goal
 
-pub returns-in-Ok : goal.returns-in-Ok
-returns-in-Ok g c =
+pub returns-in-Ok-clause-served : goal.returns-in-Ok-clause-served
+returns-in-Ok-clause-served g c =
     let o = g.T.Store.origin in
     let context = c.args.context.now in
     let show : Link g.row.S.Denot g.row.K.Denot → LinkState = state_of g.S.Source.state g.K.Sink.state in
@@ -28,10 +28,7 @@ returns-in-Ok g c =
     let whole = whole_of one.store in
     let last = last_number o whole in
     let seen : List (SessionLane g.row.T.Denot SessionEnd) → Type 0 = λ xs. All (λ (x : SessionLane g.row.T.Denot SessionEnd). IsPrefix x.session.seen whole) xs in
-    ok_with c.report_follow.result _ _
-    (λ report shown begins.
-    runs_follow g.F.Source.state show context.graph.now o context.budget context.policy _ one _ _ _ lanes _ _ report c.args.weights c.args.first
+    runs_follow g.F.Source.state show context.graph.now o context.budget context.policy _ one _ _ _ lanes _ _ c.report_follow.result c.args.weights c.args.first
     (sym c.requires.first) (sym c.requires.base) all.follower all.sessions
-    (shown ∙ ap (λ (xs : List (SessionLane g.row.T.Denot SessionEnd)). record { feeds = one.end.items; lanes = map (report_of last) xs }) back)
-    (subst seen back begins))
-    c.report_follow.ensures.reports c.report_follow.ensures.begins
+    (c.report_follow.ensures.reports ∙ ap (λ (xs : List (SessionLane g.row.T.Denot SessionEnd)). record { feeds = one.end.items; lanes = map (report_of last) xs }) back)
+    (subst seen back c.report_follow.ensures.begins)

@@ -1,6 +1,5 @@
 use Rattle.std.proofs.Common.{◌≡◌, ℕ, List, [], ◌∷◌, ◌++◌, All, length, map, rules, ap, ap₂, sym, subst, ◌∙◌}
 use Rattle.std.proofs.lemmas.List.{length-map}
-use Rattle.std.proofs.lemmas.Result.{IfOk-weaker}
 use mathlib.Core.List.{IsPrefix}
 use Rattle.epoch_store.specs.Origin.{last_number}
 use Rattle.session_core.specs.declared.end.SessionEnd.{SessionEnd}
@@ -16,24 +15,21 @@ returns-clause-reports g c =
     let before = c.args.sessions.items in
     let after = c.end_store.new.lanes in
     let whole = whole_of c.args.operator.store in
-    let last = c.in_ok-last.last in
+    let last = c.end_store.result in
     let end = c.args.operator.end in
     let change : SessionLane g.row.T.Denot SessionEnd → SessionLane g.row.T.Denot SessionEnd = learnt whole in
-    let learned : after ≡ map change before = c.in_ok-last.ensures.learnt ∙ ap (map change) c.deref_mut.ensures.value in
+    let learned : after ≡ map change before = c.end_store.ensures.learnt ∙ ap (map change) c.deref_mut.ensures.value in
     let count = ap length learned ∙ length-map before change ∙ (sym (ap length c.deref_mut.ensures.value) ∙ c.deref_mut.ensures.len) in
     let back = written_back after before c.args.sessions.len count ∙ learned in
-    let number : last ≡ last_number o whole = c.in_ok-last.ensures.last in
+    let number : last ≡ last_number o whole = c.end_store.ensures.last in
     let first : LaneReport = record { end = end; last = last; numbers = [] } in
-    let pushed : c.push.new.self.items ≡ first ∷ [] = search rules in
+    let pushed : c.push_reserved.new.self.items ≡ first ∷ [] = search rules in
     let same = ap (map (report_of last)) back ∙ reports_of_learnt last whole before in
-    IfOk-weaker c.report_sessions.result _ _
-    (λ all exchanges. subst (λ (n : ℕ). all.items ≡ record { end = end; last = n; numbers = [] } ∷ map (report_of n) before) number
-    (exchanges ∙ ap₂ (λ (a b : List LaneReport). a ++ b) pushed same))
-    c.report_sessions.ensures
+    subst (λ (n : ℕ). c.report_sessions.result.items ≡ record { end = end; last = n; numbers = [] } ∷ map (report_of n) before) number
+    (c.report_sessions.ensures ∙ ap₂ (λ (a b : List LaneReport). a ++ b) pushed same)
 
 pub returns-clause-begins : goal.returns-clause-begins
 returns-clause-begins g c =
     let lane : Type 0 = SessionLane g.row.T.Denot SessionEnd in
     let seen : List lane → Type 0 = λ lanes. All (λ (l : lane). IsPrefix l.session.seen (whole_of c.args.operator.store)) lanes in
-    let begins = subst seen c.deref_mut.ensures.value c.in_ok-last.ensures.begins in
-    IfOk-weaker c.report_sessions.result _ _ (λ all exchanges. begins) c.report_sessions.ensures
+    subst seen c.deref_mut.ensures.value c.end_store.ensures.begins

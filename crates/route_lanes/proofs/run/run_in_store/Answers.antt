@@ -9,12 +9,12 @@ use Rattle.route_lanes.specs.Lanes.{LaneReport}
 use Rattle.route_lanes.specs.Served.{SessionServes, report_of, whole_of}
 use Rattle.route_lanes.specs.declared.session_lane.SessionLane.{SessionLane}
 use Rattle.route_lanes.proofs.LaneLemmas.{runs_lanes}
-use Rattle.route_lanes.proofs.ReportLemmas.{ok_with, written_back}
+use Rattle.route_lanes.proofs.ReportLemmas.{written_back}
 use Rattle.route_lanes.proofs.SaidLemmas.{as_many_parties}
 use Rattle.route_lanes.proofs.run.run_in_store.Goals as goal
 
-pub returns-in-Ok : goal.returns-in-Ok
-returns-in-Ok g c =
+pub returns-in-Ok-clause-served : goal.returns-in-Ok-clause-served
+returns-in-Ok-clause-served g c =
     let o = g.T.Store.origin in
     let context = c.args.context.now in
     let show : Link g.row.S.Denot g.row.K.Denot → LinkState = state_of g.S.Source.state g.K.Sink.state in
@@ -30,10 +30,7 @@ returns-in-Ok g c =
     let last = last_number o whole in
     let seen : List (SessionLane g.row.T.Denot SessionEnd) → Type 0 = λ xs. All (λ (x : SessionLane g.row.T.Denot SessionEnd). IsPrefix x.session.seen whole) xs in
     let first : LaneReport = record { end = one.end; last = last; numbers = [] } in
-    ok_with c.report_lanes.result _ _
-    (λ reports exchanges begins.
-    runs_lanes show context.graph.now o context.budget context.policy _ one _ lanes _ _ reports.items c.args.weights c.args.first
+    runs_lanes show context.graph.now o context.budget context.policy _ one _ lanes _ _ c.report_lanes.result.items c.args.weights c.args.first
     (sym c.requires.first) (sym c.requires.base) all
-    (exchanges ∙ ap (λ (xs : List (SessionLane g.row.T.Denot SessionEnd)). first ∷ map (report_of last) xs) back)
-    (subst seen back begins))
-    c.report_lanes.ensures.reports c.report_lanes.ensures.begins
+    (c.report_lanes.ensures.reports ∙ ap (λ (xs : List (SessionLane g.row.T.Denot SessionEnd)). first ∷ map (report_of last) xs) back)
+    (subst seen back c.report_lanes.ensures.begins)

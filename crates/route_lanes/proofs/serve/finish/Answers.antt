@@ -9,4 +9,4 @@ pub returns-clause-begins : goal.returns-clause-begins
 returns-clause-begins g c =
     let lane : Type 0 = SessionLane g.row.T.Denot DoorTally in
     let seen : List lane → Type 0 = λ lanes. All (λ (l : lane). IsPrefix l.session.seen (whole_of c.args.operator.store)) lanes in
-    subst seen c.deref_mut.ensures.value c.in_ok-end_store.ensures.begins
+    subst seen c.deref_mut.ensures.value c.end_store.ensures.begins

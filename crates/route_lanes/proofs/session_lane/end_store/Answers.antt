@@ -8,4 +8,4 @@ pub returns-clause-begins : goal.returns-clause-begins
 returns-clause-begins g c =
     let lane : Type 0 = SessionLane g.row.T.Denot g.row.E.Denot in
     let seen : History → Type 0 = λ h. All (λ (l : lane). IsPrefix l.session.seen h) c.args.lanes.now in
-    subst seen c.close-ended.ensures c.in_ok-learnt.ensures.begins
+    subst seen c.close-ended.ensures c.learn_all.ensures.begins

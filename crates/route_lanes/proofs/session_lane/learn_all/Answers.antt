@@ -18,9 +18,9 @@ loop-k-preserved g c =
     let within : loop.k < length before = omega arith in
     let change : SessionLane g.row.T.Denot g.row.E.Denot → SessionLane g.row.T.Denot g.row.E.Denot = learnt whole in
     let as_before = not_yet change before loop.lanes loop.k lane within loop.invariant.learnt in
-    let written = c.in_ok-learn.ensures.learnt ∙ ap change (sym c.index-lanes-k.is) in record {
+    let written = c.learn.ensures.learnt ∙ ap change (sym c.index-lanes-k.is) in record {
       learnt = ap (set loop.lanes loop.k) written ∙ map_over_more change before loop.lanes loop.k lane within loop.invariant.learnt c.index-lanes-k.is;
-      begins = All-more begins before loop.k lane within loop.invariant.begins (subst begins as_before c.in_ok-learn.ensures.begins);
+      begins = All-more begins before loop.k lane within loop.invariant.begins (subst begins as_before c.learn.ensures.begins);
     }
 
 pub returns-clause-begins : goal.returns-clause-begins

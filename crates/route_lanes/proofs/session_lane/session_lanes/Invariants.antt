@@ -1,4 +1,5 @@
-use Rattle.std.proofs.Common.{◌≡◌, ◌+◌, [], All, vec_len}
+use Rattle.std.proofs.Common.{◌≡◌, ◌+◌, All, vec_len}
+use Rattle.epoch_store.specs.Readers.{unread}
 use Rattle.route_lanes.specs.Served.{IsFresh}
 use Rattle.route_lanes.proofs.session_lane.session_lanes.Given as goal
 
@@ -6,7 +7,7 @@ use Rattle.route_lanes.proofs.session_lane.session_lanes.Given as goal
 abbrev pub invariant-loop-reader : goal.invariant-loop-reader
 invariant-loop-reader g l = record {
   count : vec_len l.rest + vec_len l.lanes ≡ vec_len l.initial.rest;
-  waiting : All (λ h. h ≡ []) l.rest.items;
+  waiting : All (λ x. x ≡ unread) l.rest.items;
   seated : All (λ lane. IsFresh lane.session) l.lanes.items;
 }
 

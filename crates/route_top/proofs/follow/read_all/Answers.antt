@@ -9,18 +9,20 @@ pub returns-in_err-feeds-clause-stopped : goal.returns-in_err-feeds-clause-stopp
 returns-in_err-feeds-clause-stopped g c =
     let p = err_from_is_err_and c.from_residual.result c.from_residual.ensures.1 in
     let asked = c.args.asked.now in
-    rw (p.1, p.2) (stops_first _ (feeds_of asked) (sessions_of asked) c.in_err-feeds.ensures.stopped)
+    rw (p.1, p.2) (stops_first _ (feeds_of asked) (sessions_of asked)
+    (rw (c.text.ensures, c.get.ensures.value) at c.in_err-feeds.ensures.stopped))
 
 pub returns-in_err-scripts-clause-stopped : goal.returns-in_err-scripts-clause-stopped
 returns-in_err-scripts-clause-stopped g c =
     let p = err_from_is_err_and c.from_residual-in_err-scripts.result c.from_residual-in_err-scripts.ensures.1 in
     let asked = c.args.asked.now in
-    rw (p.1, p.2) (stops_later _ (feeds_of asked) (sessions_of asked) _ c.in_ok-feeds.ensures.read
-    (rw c.in_ok-feeds.ensures.folder.files at c.in_err-scripts.ensures.stopped))
+    rw (p.1, p.2) (stops_later _ (feeds_of asked) (sessions_of asked) _
+    (rw (c.text.ensures, c.get.ensures.value) at c.in_ok-feeds.ensures.read)
+    (rw (c.text-2.ensures, c.get-2.ensures.value, c.in_ok-feeds.ensures.folder.files) at c.in_err-scripts.ensures.stopped))
 
 pub returns-in_default-clause-stopped : goal.returns-in_default-clause-stopped
 returns-in_default-clause-stopped g c =
     let asked = c.args.asked.now in
     let feeds = feeds_of asked in
     starves_first _ (feeds ++ sessions_of asked)
-    (omega (arith, length-append feeds (sessions_of asked), count_numbered asked.feeds asked.links, c.get.ensures.at_least))
+    (omega (arith, length-append feeds (sessions_of asked), count_numbered asked.feeds asked.links))

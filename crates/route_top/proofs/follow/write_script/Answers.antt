@@ -19,7 +19,7 @@ returns-in_err-bytes g c =
     let asked = c.args.asked.now in
     let read = c.in_ok-graph.ensures.read in
     rw (p.1, p.2) (ends_at_named (WriteReplies asked) asked.files (asked.operator ∷ []) _ _ _ _ read c.in_ok-graph.ensures.folder _
-    (stops_only _ asked.operator c.in_err-bytes.ensures.read) c.in_err-bytes.ensures.folder)
+    (stops_only _ asked.operator (rw c.text-name.ensures at c.in_err-bytes.ensures.read)) c.in_err-bytes.ensures.folder)
 
 pub returns-in_err-write_feed : goal.returns-in_err-write_feed
 returns-in_err-write_feed g c =
@@ -29,7 +29,7 @@ returns-in_err-write_feed g c =
     let script = c.in_ok-bytes.bytes.items in
     let from : c.link_of-link.result.from ≡ script = c.link_of-link.ensures.from in
     rw (p.1, p.2) (ends_over_named (WriteReplies asked) asked.files (asked.operator ∷ []) _ _ _ _ read c.in_ok-graph.ensures.folder
-    (script ∷ []) _ _ _ (c.in_ok-bytes.ensures.read, tt) c.in_ok-bytes.ensures.folder
+    (script ∷ []) _ _ _ (rw c.text-name.ensures at c.in_ok-bytes.ensures.read, tt) c.in_ok-bytes.ensures.folder
     (feed_cut asked _ _ c.in_ok-graph.ensures.matched script _ _ _ c.in_ok-bytes.ensures.read.short c.link_of-link.ensures.to _ _ _
     (rw from at c.in_err-write_feed.ensures)))
 
@@ -40,6 +40,6 @@ returns g c =
     let script = c.in_ok-bytes.bytes.items in
     let from : c.link_of-link.result.from ≡ script = c.link_of-link.ensures.from in
     ends_over_named (WriteReplies asked) asked.files (asked.operator ∷ []) _ _ _ _ read c.in_ok-graph.ensures.folder
-    (script ∷ []) _ _ _ (c.in_ok-bytes.ensures.read, tt) c.in_ok-bytes.ensures.folder
+    (script ∷ []) _ _ _ (rw c.text-name.ensures at c.in_ok-bytes.ensures.read, tt) c.in_ok-bytes.ensures.folder
     (feed_sent asked _ _ c.in_ok-graph.ensures.matched script _ _ _ c.in_ok-bytes.ensures.read.short c.link_of-link.ensures.to _ _
     (rw from at c.in_ok-write_feed.ensures))

@@ -22,8 +22,8 @@ returns-in_err-graph g c =
     rw (p.1, p.2) (ends_at_files (LanesEnd (g.F.Source.state c.args.folder.now).files c.args.asked.now) _ _ _ _ stop
     c.in_err-graph.ensures.folder)
 
-pub read_scripts-requires-clause-admitted : goal.read_scripts-requires-clause-admitted
-read_scripts-requires-clause-admitted g c = of_scripts g.F.Folder.admits c.args.asked.now.files (scripts_of c.args.asked.now) c.requires
+pub read_scripts-requires : goal.read_scripts-requires
+read_scripts-requires g c = of_scripts g.F.Folder.admits c.args.asked.now.files (scripts_of c.args.asked.now) c.requires
 
 pub returns-in_err-links : goal.returns-in_err-links
 returns-in_err-links g c =
@@ -36,13 +36,13 @@ pub run_lanes-requires-clause-some_session : goal.run_lanes-requires-clause-some
 run_lanes-requires-clause-some_session g c κs within =
     let links = count_links {L = SureLink} (λ l. l.from) (g.F.Source.state c.read_network.new.folder).files (scripts_of c.args.asked.now)
     c.in_ok-links.links.items c.in_ok-links.ensures.read in
-    omega (arith, links, count_scripts c.args.asked.now, c.get-count, ap length c.deref_mut.ensures.value)
+    omega (arith, links, count_scripts c.args.asked.now, ap length c.deref_mut.ensures.value)
 
 pub run_lanes-requires-clause-at_most_16_sessions : goal.run_lanes-requires-clause-at_most_16_sessions
 run_lanes-requires-clause-at_most_16_sessions g c κs within =
     let links = count_links {L = SureLink} (λ l. l.from) (g.F.Source.state c.read_network.new.folder).files (scripts_of c.args.asked.now)
     c.in_ok-links.links.items c.in_ok-links.ensures.read in
-    omega (arith, links, count_scripts c.args.asked.now, c.get-count, ap length c.deref_mut.ensures.value)
+    omega (arith, links, count_scripts c.args.asked.now, ap length c.deref_mut.ensures.value)
 
 pub returns-in_err-reports : goal.returns-in_err-reports
 returns-in_err-reports g c =
@@ -66,7 +66,7 @@ returns-in_err-put_lanes g c =
     let short = all_short {L = SureLink} (λ l. l.from) (g.F.Source.state c.read_network.new.folder).files (scripts_of asked) c.in_ok-links.links.items
     c.in_ok-links.ensures.read in
     let exchanges = links_exchanged {L = SureLink} (λ l. l.from) (λ l. l.to) asked _ _ c.in_ok-graph.ensures.matched c.in_ok-links.links.items _ _ _ _ _ _
-    c.deref_mut.ensures.value c.in_ok-links.links.ok.0 c.deref-2.ensures.value c.deref.ensures.value c.in_ok-reports.ensures short
+    c.deref_mut.ensures.value c.in_ok-links.links.ok.0 c.deref-2.ensures.value c.deref.ensures.value (rw c.get-budget.ensures.value at c.in_ok-reports.ensures.served) short
     c.in_ok-links.ensures.unsent c.in_ok-memory_sufficed.ensures in
     rw (p.1, p.2) (ends_over_scripts asked _ _ _ _ read c.in_ok-graph.ensures.folder _ _ _ _ c.in_ok-links.ensures.read c.in_ok-links.ensures.folder
     (lanes_cut asked _ _ _ exchanges _ _ _ c.in_err-put_lanes.ensures))
@@ -78,7 +78,7 @@ returns g c =
     let short = all_short {L = SureLink} (λ l. l.from) (g.F.Source.state c.read_network.new.folder).files (scripts_of asked) c.in_ok-links.links.items
     c.in_ok-links.ensures.read in
     let exchanges = links_exchanged {L = SureLink} (λ l. l.from) (λ l. l.to) asked _ _ c.in_ok-graph.ensures.matched c.in_ok-links.links.items _ _ _ _ _ _
-    c.deref_mut.ensures.value c.in_ok-links.links.ok.0 c.deref-2.ensures.value c.deref.ensures.value c.in_ok-reports.ensures short
+    c.deref_mut.ensures.value c.in_ok-links.links.ok.0 c.deref-2.ensures.value c.deref.ensures.value (rw c.get-budget.ensures.value at c.in_ok-reports.ensures.served) short
     c.in_ok-links.ensures.unsent c.in_ok-memory_sufficed.ensures in
     ends_over_scripts asked _ _ _ _ read c.in_ok-graph.ensures.folder _ _ _ _ c.in_ok-links.ensures.read c.in_ok-links.ensures.folder
     (lanes_replied asked _ _ _ exchanges _ _ c.in_ok-put_lanes.ensures)

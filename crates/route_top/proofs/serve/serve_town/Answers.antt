@@ -10,7 +10,7 @@ use Rattle.route_top.proofs.serve.serve_town.Goals as goal
 pub returns-in_err-doors : goal.returns-in_err-doors
 returns-in_err-doors g c =
     let p = err_from_is_err_and c.from_residual.result c.from_residual.ensures.1 in
-    rw (p.1, p.2) (not_listened c.args.asked.now _ _ _ _ _ c.in_err-doors.ensures)
+    rw (p.1, p.2) (not_listened c.args.asked.now _ _ _ _ _ (rw (c.get-lanes.ensures.value, c.get-links.ensures.value) at c.in_err-doors.ensures))
 
 pub take_back-requires-clause-places : goal.take_back-requires-clause-places
 take_back-requires-clause-places g c =
@@ -33,4 +33,5 @@ returns g c =
     let as_many = sym (length-map after show) ∙ as_many_doors c.args.asked.now _ _ _ _ _ serves ∙ length-map doors show in
     let count : length after ≡ c.in_ok-doors.doors.len = as_many ∙ sym (ap length c.deref_mut.ensures.value) ∙ c.deref_mut.ensures.len in
     let back = written_back after doors c.in_ok-doors.doors.len count in
-    listened (g.T.Town.state c.listen.new.self) (map show doors) (map show after) c.in_ok-doors.ensures serves (rw back at c.take_back.ensures)
+    listened (g.T.Town.state c.listen.new.self) (map show doors) (map show after)
+    (rw (c.get-lanes.ensures.value, c.get-links.ensures.value) at c.in_ok-doors.ensures) serves (rw back at c.take_back.ensures)

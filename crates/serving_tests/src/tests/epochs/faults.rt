@@ -28,7 +28,7 @@ fn refuse_all<S: Store, R: Wait + Abort>(
     requires weights { weights ≡ S.origin.base }
     requires two { S.origin.base.criteria ≡ 2 }
 {
-    let (mut operator, _readers) = make::<S>(alloc, chronicle, 4294967294, weights, 1)?;
+    let (mut operator, _readers) = make::<S, R>(rt, alloc, chronicle, 4294967294, weights, 1)?;
     assert!(rt; fill(&mut operator), "one change more");
     assert_sets_refused(rt, &mut operator);
     assert_shuts_refused(rt, &mut operator);

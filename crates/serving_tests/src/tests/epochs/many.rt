@@ -29,7 +29,7 @@ fn publish_often<S: Store, R: Wait + Abort>(
     requires weights { weights ≡ S.origin.base }
     requires four { S.origin.base.criteria ≡ 4 }
 {
-    let (mut operator, mut readers) = make::<S>(alloc, chronicle, 0, weights, 1)?;
+    let (mut operator, mut readers) = make::<S, R>(rt, alloc, chronicle, 0, weights, 1)?;
     read_after_each(rt, &mut operator, &mut readers[0]);
     operator.close(rt).end(rt);
     Ok(())

@@ -59,7 +59,7 @@ fn publish_beside_readers<S: Store + Send + Sync, R: Threads + Wait + Abort + Sy
 {
     let mut one = Replay::of(alloc, &weights)?;
     let mut other = Replay::of(alloc, &weights)?;
-    let (mut operator, mut readers) = make::<S>(alloc, chronicle, 0, weights, 2)?;
+    let (mut operator, mut readers) = make::<S, R>(rt, alloc, chronicle, 0, weights, 2)?;
     let (first, second) = readers.split_at_mut(1);
     let (first, second) = (&mut first[0], &mut second[0]);
     let (published, (seen, also)) = join(

@@ -326,7 +326,14 @@ fn operate<S: Store, R: Wait + Abort>(
     requires matched { Match context.now.graph.now S.origin.base }
 {
     let rt = context.workers.rt();
-    let (mut operator, _readers) = make::<S>(context.alloc, chronicle, row.first, weights, 1)?;
+    let (mut operator, _readers) = make::<S, R>(
+        rt,
+        context.alloc,
+        chronicle,
+        row.first,
+        weights,
+        1,
+    )?;
     let mut link = link;
     let end = serve_operator(context, &mut operator, &mut link);
     assert!(rt;

@@ -23,7 +23,6 @@ use work_claim::Workers;
 enum Before {
     Stays,
     Closes,
-    Ends,
 }
 
 /// What becomes of a link of a session over a store of six arcs and two criteria, whose first epoch has the number 0.
@@ -341,17 +340,6 @@ fn a_closed_store_ends_a_wait(rt: HostRuntime) -> Result<(), Fail> {
     serve_row(&rt, rt.alloc(), &whole("w 0\nw 9\nc 1 2\ne\n"), &row)
 }
 
-/// Looks are refused where the store has ended, so no reply is begun.
-#[test]
-fn a_refused_look_ends_a_link(rt: HostRuntime) -> Result<(), Fail> {
-    let row = Row {
-        before: Before::Ends,
-        end: SessionEnd::OutOfMemory,
-        ..ended("x line\n", &[])
-    };
-    serve_row(&rt, rt.alloc(), &whole("hello\ne\ne\n"), &row)
-}
-
 /// An epoch that is published before a line comes is seen by it.
 #[test]
 fn each_line_has_a_look_of_its_own(rt: HostRuntime) -> Result<(), Fail> {
@@ -388,18 +376,13 @@ fn serve_store<S: Store, R: Threads + Wait + Clock + Sync + Abort>(
     requires weights { weights ≡ S.origin.base }
     requires matched { Match graph.now S.origin.base }
 {
-    let (operator, readers) = make::<S>(alloc, chronicle, 0, weights, 1)?;
+    let (operator, readers) = make::<S, R>(rt, alloc, chronicle, 0, weights, 1)?;
     if row.before == Before::Closes {
         let ended = operator.close(rt);
         let mut link = link;
         let outcome = serve(rt, alloc, graph, readers, &mut link, row);
         ended.end(rt);
         return outcome;
-    }
-    if row.before == Before::Ends {
-        operator.close(rt).end(rt);
-        let mut link = link;
-        return serve(rt, alloc, graph, readers, &mut link, row);
     }
     let publishing = Publishing {
         rt,

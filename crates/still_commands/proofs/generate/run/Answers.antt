@@ -21,7 +21,7 @@ module _ (asked : GenWords) (out replied : SinkState) (outcome : Outcome) where
   summary_sent is sends = subst (λ file. Replies (EndsBy file) out replied outcome) (sym is) sends
 
 pub returns-in-Some : goal.returns-in-Some
-returns-in-Some g c = file_sent c.args.asked.now _ _ _ c.in-Some.number c.in-Some.is c.send_file.ensures
+returns-in-Some g c = file_sent c.args.asked.now _ _ _ c.in-Some.number c.in-Some.is (rw c.get.ensures.value at c.send_file.ensures)
 
 pub returns-in-None : goal.returns-in-None
 returns-in-None g c = summary_sent c.args.asked.now _ _ _ c.in-None.is c.send_summary.ensures

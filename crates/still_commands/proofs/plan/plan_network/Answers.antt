@@ -24,7 +24,7 @@ pub want_in-requires : goal.want_in-requires
 want_in-requires c =
     let stands = all_stand c.args.plan.now c.loop-before.before c.loop-before.joiner (omega (arith, c.loop-before-test.false, c.loop-before.auto.before-end))
     c.loop-before.invariant.stands in
-    only_want_in (files_of c.args.plan.now) c.in-Err.fault (c.weight_files_agree.ensures c.args.plan.now c.requires)
+    only_want_in (files_of c.args.plan.now) c.in-Err.fault (c.weight_files_agree.ensures c.args.plan.now c.numbers_are_in_range.ensures)
     (c.in-Err.ensures.fault (files_of c.args.plan.now) stands)
 
 pub returns-in-Ok-clause-network : goal.returns-in-Ok-clause-network

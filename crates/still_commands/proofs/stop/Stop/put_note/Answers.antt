@@ -1,8 +1,5 @@
 use Rattle.still_commands.proofs.stop.Stop.put_note.Goals as goal
 
-pub returns-in-Words : goal.returns-in-Words
-returns-in-Words g c = rw c.in-Words.is c.put_all.ensures
-
 pub returns-in-Folder : goal.returns-in-Folder
 returns-in-Folder g c = rw c.in-Folder.is c.put_line.ensures
 

@@ -20,8 +20,8 @@ finish-requires g c =
     (spots_of_items _ c.taken-taken.result.now ∙ c.taken-taken.ensures.spots) c.taken-taken.ensures.from _ _ c.in_ok-relax_and_merge.ensures.kept in
     (search rules, rw c.deref.ensures.value kept)
 
-pub returns-in_ok-finish-clause-ended : goal.returns-in_ok-finish-clause-ended
-returns-in_ok-finish-clause-ended g c =
+pub returns-clause-ended : goal.returns-clause-ended
+returns-clause-ended g c =
     let core = c.args.self.now.core in
     ends_over c.args.network.now c.nodes.ensures.network.network core c.requires.is_open _
     (spots_of_items _ c.taken-taken.result.now ∙ c.taken-taken.ensures.spots) c.taken-taken.ensures.from

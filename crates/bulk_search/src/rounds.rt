@@ -89,7 +89,14 @@ where
         prove!(network.nodes() >= 1);
         prove!(network.criteria() == D);
         let (taken, settled) = (self.core.taken(), self.core.settled());
-        relax_and_merge(workers, alloc, network, settled, taken, &mut self.candidates)?;
+        relax_and_merge(
+            workers,
+            alloc,
+            network,
+            settled,
+            taken,
+            &mut self.candidates,
+        )?;
         self.core.finish(&self.candidates)?;
         Ok(())
     }

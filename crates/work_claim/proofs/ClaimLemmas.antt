@@ -114,8 +114,12 @@ permuted (x ∷ xs) ys same =
 -- what all seats have drawn
 times_of_all : (x : ℕ) (seats : List Draws) → times x (flat_map (λ s. s.numbers) seats) ≡ sum_by (λ s. times x s.numbers) seats
 times_of_all x [] = refl
-times_of_all x (s ∷ others) = omega (arith, sum_by-append (λ y. cond (eqb y x) 1 0) s.numbers (flat_map (λ v. v.numbers) others),
-    sum_by-cons (λ v. times x v.numbers) s others, times_of_all x others)
+times_of_all x (s ∷ others) = omega (
+  arith,
+  sum_by-append (λ y. cond (eqb y x) 1 0) s.numbers (flat_map (λ v. v.numbers) others),
+  sum_by-cons (λ v. times x v.numbers) s others,
+  times_of_all x others,
+)
 
 -- each number below the counter stands there once
 pub shared_out : (pieces workers : ℕ) (words : List ℕ) (seats : List Draws) → AreClaims pieces workers words seats

@@ -196,8 +196,8 @@ module _ {task : Task} {budget k : ℕ} {before : Core} (after : IsAfter task bu
         }
 
     -- and where memory ran out, no more than there are
-    pub counts_some : IsErrAnd result (λ e. e ≡ fault.OutOfMemory) → CountsRounds task budget result first new
-    counts_some out = counts_out task budget result first new is out (λ n all. elim (cases_lt old new) [
+    pub counts_some : {want : OutOfMemory} → IsErrAnd result (λ e. e ≡ fault.OutOfMemory want) → CountsRounds task budget result first new
+    counts_some {want} out = counts_out task budget result first new is out (λ n all. elim (cases_lt old new) [
       | inl less ↦
           let (l, stays) = some_stay task before s after.at (counts.some_open less) in
           omega (arith, counts.at_most_one, so_far, more_to_come task is budget k n s l after.go after.within stays all)

@@ -2,6 +2,7 @@
 use Rattle.std.proofs.Common.{◌≡◌, ℕ, ◌+◌, ◌≤◌, List, Result, Err, ap, ◌∙◌, arith, sum}
 use Rattle.std.specs.Result.{IsErrAnd}
 use Rattle.std.proofs.lemmas.Result.{err_from_is_err_and}
+use Rattle.out_of_memory.specs.declared.OutOfMemory.{OutOfMemory}
 use Rattle.road_network.specs.Network.{IsNetwork, Network}
 use Rattle.road_network.specs.Queries.{IsQuery, limit_of}
 use Rattle.road_network.specs.declared.query.Query.{Query}
@@ -28,8 +29,8 @@ few_by_rounds net query result old new is asked counts =
 
 -- where memory ran out, no more rounds were counted than there are
 pub counts_out : {Answer : Type 0} (task : Task) (budget : ℕ) (result : Result Answer SearchFault) (old new : ℕ) → IsTask task
-    → IsErrAnd result (λ e. e ≡ fault.OutOfMemory) → ((n : ℕ) → Rounds task budget n → new ≤ old + n) → CountsRounds task budget result old new
-counts_out task budget result old new is out most =
+    → {want : OutOfMemory} → IsErrAnd result (λ e. e ≡ fault.OutOfMemory want) → ((n : ℕ) → Rounds task budget n → new ≤ old + n) → CountsRounds task budget result old new
+counts_out task budget result old new is {want} out most =
     let (n, all) = some_number task is budget in
     let (e, is_err, same) = err_from_is_err_and result out in
-    record { rounds = n; all = all; at_most = most n all; exact = λ not. absurd (not (is_err ∙ ap (λ f. Err f) same)) }
+    record { rounds = n; all = all; at_most = most n all; exact = λ not. absurd (not want (is_err ∙ ap (λ f. Err f) same)) }

@@ -1,6 +1,7 @@
 -- How many rounds a query takes.
 use Rattle.std.specs.Prelude.{◌≡◌, ◌≢◌, ℕ, ◌+◌, ◌≤◌, Result, Err}
 use Rattle.event_machine.specs.Machine.{Task}
+use Rattle.out_of_memory.specs.declared.OutOfMemory.{OutOfMemory}
 use Rattle.event_machine.specs.Rounds.{Rounds}
 use Rattle.road_network.specs.Network.{Network}
 use Rattle.road_network.specs.Queries.{limit_of}
@@ -19,4 +20,4 @@ pub record CountsRounds {Answer : Type 0} (task : Task) (budget : ℕ) (result :
   pub rounds : ℕ
   pub all : Rounds task budget rounds
   pub at_most : new ≤ old + rounds
-  pub exact : result ≢ Err fault.OutOfMemory → new ≡ old + rounds
+  pub exact : ((want : OutOfMemory) → result ≢ Err (fault.OutOfMemory want)) → new ≡ old + rounds

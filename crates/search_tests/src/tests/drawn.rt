@@ -6,5 +6,4 @@ mod examples;
 mod networks;
 mod searches;
 mod searching;
-mod sharing;
 mod walks;

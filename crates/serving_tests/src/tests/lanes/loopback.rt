@@ -80,7 +80,7 @@ fn visit<R: Net<Listener = TcpListener, Stream = TcpStream> + Files>(
 /// Serves the doors while peers visit their addresses, and tells what became of the doors, and whether the peers had their
 /// replies. Where no thread can be started the peers come first, and go when they have waited long enough.
 fn serve_visits<
-    R: Net<Listener = TcpListener, Stream = TcpStream> + Threads + Wait + Clock + Sync,
+    R: Net<Listener = TcpListener, Stream = TcpStream> + Files + Threads + Wait + Clock + Sync,
     G: Gate,
 >(
     rt: &R,

@@ -1,5 +1,6 @@
 -- The lines of an answer's routes, sent part after part.
-use Rattle.std.proofs.Common.{◌≡◌, ℕ, ◌+◌, ◌-◌, ◌*◌, ◌<◌, ◌≤◌, List, ◌++◌, Option, Some, Result, Ok, Err, length, get_or, min, take, drop, refl, sym, ap, subst, arith, ◌∙◌}
+use Rattle.std.proofs.Common.{◌≡◌, ℕ, ◌+◌, ◌-◌, ◌*◌, ◌<◌, ◌≤◌, List, ◌++◌, Option, Some, None, false, true, Result, Ok, Err, length, get_or, min, take, drop, refl, sym, ap, subst, arith, ◌∙◌}
+use Rattle.std.specs.Prelude.{All, IfSome, IsTrue, is_some}
 use Rattle.std.specs.List.{between, flat_map}
 use Rattle.std.proofs.Math.Seq.{take-add}
 use Rattle.std.proofs.lemmas.List.{drop-drop}
@@ -57,20 +58,25 @@ module _ (kind : AnswerKind) (routes : List Route) where
 
 -- the texts of a window's pieces are sent one by one
 module _ (net : Network) (f : FoundCosts) (kind : AnswerKind) (from to : ℕ) (texts : List (Option SureSink)) (are : AreTexts net f kind from to texts)
-    (routes : List Route) (its : AreRoutes net f routes) (old mid new : SinkState) (i : ℕ) (text : SureSink) (within : i < length texts)
-    (at : Some text ≡ get_or texts i (Some text)) (first : SentLines kind routes old mid from (min to (from + i * piece_size))) where
+    (whole : All (λ made. IsTrue (is_some made)) texts) (routes : List Route) (its : AreRoutes net f routes) (old mid new : SinkState) (i : ℕ)
+    (item : Option SureSink) (text : List ℕ) (within : i < length texts) (at : item ≡ get_or texts i item)
+    (told : IfSome item (λ made. text ≡ made.sent)) (first : SentLines kind routes old mid from (min to (from + i * piece_size))) where
   begins : from + i * piece_size < to
   begins = are.begin i within
 
-  lines : text.sent ≡ lines_between kind routes (min to (from + i * piece_size)) (min to (from + (i + 1) * piece_size))
+  text_is : (made : Option SureSink) → made ≡ get_or texts i made → IfSome made (λ it. text ≡ it.sent)
+      → text ≡ lines_between kind routes (from + i * piece_size) (min to (from + (i + 1) * piece_size))
+  text_is None is known = let no : false ≡ true = subst (λ m. IsTrue (is_some m)) (sym is) (whole i None within) in absurd cc
+  text_is (Some made) is known = known ∙ are.each i made (slice_get_read texts (length texts) i (Some made) refl within is) routes its
+
+  lines : text ≡ lines_between kind routes (min to (from + i * piece_size)) (min to (from + (i + 1) * piece_size))
   lines =
       let start : from + i * piece_size ≡ min to (from + i * piece_size) = omega (arith, begins) in
-      are.each i text (slice_get_read texts (length texts) i (Some text) refl within at) routes its
-      ∙ ap (λ n. lines_between kind routes n (min to (from + (i + 1) * piece_size))) start
+      text_is item at told ∙ ap (λ n. lines_between kind routes n (min to (from + (i + 1) * piece_size))) start
 
-  pub piece_sent : Sent mid new text.sent → SentLines kind routes old new from (min to (from + (i + 1) * piece_size))
+  pub piece_sent : Sent mid new text → SentLines kind routes old new from (min to (from + (i + 1) * piece_size))
   piece_sent sent = more_lines kind routes old mid new from _ _ (omega (arith, begins)) (omega arith) first (Ok tt) (rw lines at sent)
 
-  pub piece_cut : (fault : WriteFault) → Sends {T = Unit {0}} mid new text.sent (Err fault)
+  pub piece_cut : (fault : WriteFault) → Sends {T = Unit {0}} mid new text (Err fault)
       → Sends {T = Unit {0}} old new (lines_between kind routes from to) (Err fault)
   piece_cut fault sent = lines_cut kind routes old mid new from _ _ (omega (arith, begins)) (omega arith) first to (omega arith) fault (rw lines at sent)

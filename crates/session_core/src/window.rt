@@ -1,5 +1,5 @@
 //! The lines of an answer's routes, which workers make side by side.
-ghost use Rattle.std.specs.Prelude.{◌≡◌, ℕ, ◌+◌, ◌*◌, ◌<◌, ◌≤◌, List, length, All, IfOk, IsTrue, is_some};
+ghost use Rattle.std.specs.Prelude.{◌≡◌, ℕ, ◌+◌, ◌*◌, ◌<◌, ◌≤◌, List, length, All, IfOk, IfSome, IsTrue, is_some};
 ghost use Rattle.road_network.specs.Answers.{Route};
 ghost use Rattle.route_io.specs.Sinks.{Sends};
 ghost use Rattle.walk_readback.specs.Found.{longest_in};
@@ -100,9 +100,7 @@ impl<F: FoundCosts + Sync> Window<'_, F> {
             (lines_between self.now.kind routes self.now.from self.now.to) result }
     {
         for made in texts {
-            if let Some(text) = made {
-                put_all(out, text.sent())?;
-            }
+            put_all(out, text_of(made))?;
         }
         Ok(())
     }
@@ -131,6 +129,16 @@ impl<F: FoundCosts + Sync> Window<'_, F> {
                 put_routes(out, self.kind, self.network, self.found, places, room)
             }
         }
+    }
+}
+
+/// The text that was made, or nothing where it wasn't.
+fn text_of(made: &Option<SureSink>) -> &[u8]
+    ensures { IfSome made.now (λ text. result.now ≡ text.sent) }
+{
+    match made {
+        Some(text) => text.sent(),
+        None => &[],
     }
 }
 

@@ -4,10 +4,11 @@ use Rattle.std.proofs.Common.{sym, subst, subst₂, ◌∙◌, arith}
 use Rattle.std.specs.Prelude.{reverse, option_to_list}
 use Rattle.std.specs.Option.{MatchOption, option_flatten}
 use Rattle.std.specs.List.{AllZip}
-use Rattle.std.proofs.lemmas.List.{drop_more, length-append, length-drop, length-reverse, length-take, reverse-append, reverse-reverse, take-map, take-take, take_all}
+use Rattle.std.proofs.lemmas.List.{drop_more, length-append, length-drop, length-reverse, length-take, reverse-append, reverse-reverse, take-map, take-take, take_all, take_more, map-append}
 use Rattle.std.proofs.lemmas.Slice.Zip.{AllZip-long}
 use Rattle.road_network.specs.Network.{Network}
 use Rattle.road_network.specs.declared.query.AnswerKind.TheVariants.{Walks}
+use Rattle.road_network.specs.declared.query.Query.{Query}
 use Rattle.query_reader.specs.declared.pairs.Pair.{Pair}
 use Rattle.session_core.specs.declared.made.MadeReply.{MadeReply}
 use Rattle.session_core.specs.Making.{AreMade}
@@ -15,6 +16,13 @@ use Rattle.session_core.specs.declared.mode.SearchMode.{SearchMode}
 use Rattle.command_words.specs.declared.limits.SearchLimits.{SearchLimits}
 use Rattle.still_commands.specs.Ahead.{AreAhead, IsAhead}
 use Rattle.still_commands.specs.Batch.{query_between}
+
+-- the queries of one pair more
+pub one_more_between : (limits : SearchLimits) (pairs : List Pair) (i : ℕ) (d : Pair) (queries : List Query) (query : Query) → i < length pairs
+    → queries ≡ map (query_between limits) (take i pairs) → query ≡ query_between limits (get_or pairs i d)
+    → queries ++ query ∷ [] ≡ map (query_between limits) (take (i + 1) pairs)
+one_more_between limits pairs i d queries query within are is =
+    rw (are, is, take_more pairs i d within) (sym (map-append (query_between limits) (take i pairs) (get_or pairs i d ∷ [])))
 
 module _ (mode : SearchMode) (limits : SearchLimits) (net : Network) where
   -- the replies that were made to the queries of the pairs, in their order

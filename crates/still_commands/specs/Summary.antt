@@ -1,5 +1,5 @@
 -- What all files of a plan come to: the network and the pairs that they say, and the answers to these pairs.
-use Rattle.std.specs.Prelude.{◌≡◌, ℕ, ◌+◌, ◌*◌, ◌≤◌, List, [], Option, Some, None, is_none, is_some, length, sum, sum_by, count_by}
+use Rattle.std.specs.Prelude.{◌≡◌, ⊤, ℕ, ◌+◌, ◌*◌, ◌≤◌, List, [], Option, Some, None, is_none, is_some, length, sum, sum_by, count_by}
 use Rattle.std.specs.Prelude.{unwrap_or}
 use Rattle.std.specs.List.{AllZip, flat_map, range_with_len}
 use Rattle.cost_vector.specs.Costs.{no_limit}

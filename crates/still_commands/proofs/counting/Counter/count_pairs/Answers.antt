@@ -20,6 +20,9 @@ loop-pair-init g c =
       sums = none_summed c.args.self.now.network.now c.args.limits.now.budget c.args.pairs.now c.of-counts.result none;
     }
 
+pub count_pair-requires-clause-asked : goal.count_pair-requires-clause-asked
+count_pair-requires-clause-asked g c κs within = c.query_between-query.ensures.asked c.args.self.now.network.now.criteria
+
 pub count_pair-requires-clause-nodes : goal.count_pair-requires-clause-nodes
 count_pair-requires-clause-nodes g c κs within =
     subst (λ (q : Query). HasNodes c.args.self.now.network.now.nodes (pair_of q)) (sym c.query_between-query.ensures.value)

@@ -38,6 +38,7 @@ failed_sum (lane ∷ lanes) =
     ∙ ap (λ (n : ℕ). cond lane.failed 1 0 + n) (failed_sum lanes) ∙ sym (count_first (λ (l : DoorLane). l.failed) lane lanes)
 
 want_sum : (lanes : List DoorLane) → first_told (λ tally. tally.want) (map tally_of lanes) ≡ want_among (flat_map (λ lane. lane.visits) lanes)
+unfolding first_told
 want_sum [] = refl
 want_sum (lane ∷ lanes) =
     let visits : DoorLane → List Visit = λ l. l.visits in

@@ -9,3 +9,4 @@ pub mod DoorLaneLemmas
 pub mod FeedLemmas
 pub mod FollowLemmas
 mod FollowedLemmas
+pub mod LeaderLemmas

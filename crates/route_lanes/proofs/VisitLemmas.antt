@@ -1,10 +1,10 @@
 -- Links of a door that are served one after another.
-use Rattle.std.proofs.Common.{◌≡◌, ℕ, ◌+◌, Bool, true, false, List, [], ◌∷◌, ◌++◌, Option, Some, None, length, map, append-nil, append_assoc, refl, ap, ap₂, sym, ◌≤◌, ◌∙◌, arith}
+use Rattle.std.proofs.Common.{◌≡◌, ℕ, ◌+◌, ◌<◌, Bool, true, false, List, [], ◌∷◌, ◌++◌, Option, Some, None, length, map, take, get_or, append-nil, append_assoc, refl, ap, ap₂, sym, ◌≤◌, ◌∙◌, arith}
 use Rattle.std.specs.Prelude.{cond, option_map}
 use Rattle.core.specs.Option.{option_or}
 use mir.Val.{bool_byte}
 use Rattle.std.specs.List.{count_by, sum_by}
-use Rattle.std.proofs.lemmas.List.{length-append, map-append}
+use Rattle.std.proofs.lemmas.List.{length-append, map-append, take_more}
 use Rattle.std.proofs.lemmas.List.Sums.{sum_by-append, sum_by-cons}
 use Rattle.out_of_memory.specs.declared.OutOfMemory.{OutOfMemory}
 use Rattle.link_doors.specs.Doors.{DoorState, and_link, given_one, returned_one}
@@ -19,6 +19,11 @@ use Rattle.route_lanes.specs.Visits.{ServedSoFar, ServesLink, Visit, after_visit
 pub bit_is : (b : Bool) → bool_byte b ≡ cond b 1 0
 bit_is true = refl
 bit_is false = refl
+
+-- it is 1 at most
+pub bit_at_most : (b : Bool) → bool_byte b ≤ 1
+bit_at_most true = omega arith
+bit_at_most false = omega arith
 
 -- how many of two lists one behind the other pass
 pub count_both : {X : Type 0} (p : X → Bool) (xs ys : List X) → count_by p (xs ++ ys) ≡ count_by p xs + count_by p ys
@@ -79,6 +84,7 @@ with_faults door now visits n faults is = ap (λ (d : DoorState). record d { fau
 
 -- what the first of two lists tells comes before what the other does
 pub told_both : {X Y : Type 0} (tells : X → Option Y) (xs ys : List X) → first_told tells (xs ++ ys) ≡ option_or (first_told tells xs) (first_told tells ys)
+unfolding first_told
 told_both tells [] ys = refl
 told_both {X} {Y} tells (x ∷ xs) ys = ap (option_or (tells x)) (told_both tells xs ys) ∙ by (tells x) where
   by : (first : Option Y) → option_or first (option_or (first_told tells xs) (first_told tells ys))
@@ -94,11 +100,13 @@ told_last (Some y) = refl
 -- the first want of memory, with one more link
 pub one_more_want : (visits : List Visit) (visit : Visit) (want : Option OutOfMemory) → want ≡ want_among visits
     → option_or want (want_of visit.end) ≡ want_among (visits ++ visit ∷ [])
+unfolding first_told
 one_more_want visits visit want is =
     ap₂ option_or is (sym (told_last (want_of visit.end))) ∙ sym (told_both (λ (v : Visit). want_of v.end) visits (visit ∷ []))
 
 -- what became of the first door
 pub first_sum : (tally : DoorTally) → record { failed = bool_byte tally.failed; want = tally.want } ≡ sum_of (tally ∷ [])
+unfolding first_told
 first_sum tally =
     let served : ℕ → Option OutOfMemory → Served = λ f w. record { failed = f; want = w } in
     let failed = count_first (λ (t : DoorTally). t.failed) tally [] in
@@ -110,6 +118,7 @@ pub sum_more : (tallies : List DoorTally) (tally : DoorTally) → record {
   failed = (sum_of tallies).failed + bool_byte tally.failed;
   want = option_or (sum_of tallies).want tally.want;
 } ≡ sum_of (tallies ++ tally ∷ [])
+unfolding first_told
 sum_more tallies tally =
     let served : ℕ → Option OutOfMemory → Served = λ f w. record { failed = f; want = w } in
     let failed = count_both (λ (t : DoorTally). t.failed) tallies (tally ∷ []) in
@@ -117,6 +126,15 @@ sum_more tallies tally =
     let none : count_by (λ (t : DoorTally). t.failed) [] ≡ 0 = refl in
     ap₂ served (omega (arith, bit_is tally.failed, failed, one, none))
     (ap (option_or (sum_of tallies).want) (sym (told_last tally.want)) ∙ sym (told_both (λ (t : DoorTally). t.want) tallies (tally ∷ [])))
+
+-- the doors up to the next one
+pub sum_next : {L : Type 0} (tally_of : L → DoorTally) (first : DoorTally) (lanes : List L) (k : ℕ) (lane : L) → k < length lanes
+    → lane ≡ get_or lanes k lane
+    → sum_of ((first ∷ map tally_of (take k lanes)) ++ tally_of lane ∷ []) ≡ sum_of (first ∷ map tally_of (take (k + 1) lanes))
+sum_next {L} tally_of first lanes k lane within is =
+    let next = ap (map tally_of) (take_more lanes k lane within) ∙ map-append tally_of (take k lanes) (get_or lanes k lane ∷ []) in
+    let same = ap (λ (l : L). map tally_of (take k lanes) ++ tally_of l ∷ []) is in
+    ap (λ (tallies : List DoorTally). sum_of (first ∷ tallies)) (same ∙ sym next)
 
 -- one link more was served and given back
 pub so_far_more : {P : Type 0} (Visits : P → LinkState → LinkState → SessionEnd → P → Type 0) (first mid last : P) (before old new : DoorState)

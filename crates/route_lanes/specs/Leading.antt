@@ -1,9 +1,9 @@
 -- What becomes of a feed that is written of what an operator publishes.
-use Rattle.std.specs.Prelude.{◌≡◌, ◌≢◌, ℕ, [], Result, Ok, Err}
+use Rattle.std.specs.Prelude.{◌≡◌, ℕ, false, [], Result, Ok, Err}
 use Rattle.route_io.specs.Sinks.{SinkState, Sends}
 use Rattle.route_io.specs.declared.fault.WriteFault.{WriteFault}
 use Rattle.arc_graph.specs.Graph.{Graph, IsGraph, Weights}
-use Rattle.arc_graph.specs.History.{Operator, sets}
+use Rattle.arc_graph.specs.History.{Operator, sets, with_none_pending}
 use Rattle.epoch_follow.specs.Text.{feed_text, head_of}
 use Rattle.epoch_store.specs.Origin.{IsOperatorIn, Origin}
 use Rattle.link_doors.specs.Links.{LinkState}
@@ -20,7 +20,7 @@ pub record IsFeedWritten (graph : Graph) (o : Origin) (policy : LinkPolicy) (bef
     (result : Result (Unit {0}) WriteFault) : Type 0 where
   pub is_graph : IsGraph graph
   pub left : Operator
-  pub operator : IsOperatorIn o left
+  pub operator : IsOperatorIn o (with_none_pending left)
   pub end : SessionEnd
   pub remembered : is_starved end ≡ false
   pub serves : Serves (OperatorRun o) (IsOperatorBye o) policy (record { published = []; pending = [] }) left

@@ -24,7 +24,7 @@ want_of (ended.OutOfMemory want) = Some want
 want_of end = None
 
 -- the first thing that one of these tells
-pub first_told : {X Y : Type 0} → (X → Option Y) → List X → Option Y
+unfoldable pub first_told : {X Y : Type 0} → (X → Option Y) → List X → Option Y
 first_told tells [] = None
 first_told tells (x ∷ xs) = option_or (tells x) (first_told tells xs)
 

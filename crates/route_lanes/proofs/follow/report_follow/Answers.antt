@@ -13,14 +13,14 @@ pub returns-clause-reports : goal.returns-clause-reports
 returns-clause-reports g c =
     let o = g.T.Store.origin in
     let before = c.args.sessions.items in
-    let after = c.end_store.new.lanes in
+    let after = c.end_store-last.new.lanes in
     let whole = whole_of c.args.follower.store in
-    let last = c.end_store.result in
+    let last = c.end_store-last.result in
     let change : SessionLane g.row.T.Denot SessionEnd → SessionLane g.row.T.Denot SessionEnd = learnt whole in
-    let learned : after ≡ map change before = c.end_store.ensures.learnt ∙ ap (map change) c.deref_mut.ensures.value in
+    let learned : after ≡ map change before = c.end_store-last.ensures.learnt ∙ ap (map change) c.deref_mut.ensures.value in
     let count = ap length learned ∙ length-map before change ∙ (sym (ap length c.deref_mut.ensures.value) ∙ c.deref_mut.ensures.len) in
     let back = written_back after before c.args.sessions.len count ∙ learned in
-    let number : last ≡ last_number o whole = c.end_store.ensures.last in
+    let number : last ≡ last_number o whole = c.end_store-last.ensures.last in
     let same = ap (map (report_of last)) back ∙ reports_of_learnt last whole before in
     let all : c.report_sessions-lanes.result.items ≡ map (report_of (last_number o whole)) before =
     c.report_sessions-lanes.ensures ∙ ap₂ (λ (a b : List LaneReport). a ++ b) c.requires.none same ∙ ap (λ (n : ℕ). map (report_of n) before) number in
@@ -30,4 +30,4 @@ pub returns-clause-begins : goal.returns-clause-begins
 returns-clause-begins g c =
     let lane : Type 0 = SessionLane g.row.T.Denot SessionEnd in
     let seen : List lane → Type 0 = λ lanes. All (λ (l : lane). IsPrefix l.session.seen (whole_of c.args.follower.store)) lanes in
-    subst seen c.deref_mut.ensures.value c.end_store.ensures.begins
+    subst seen c.deref_mut.ensures.value c.end_store-last.ensures.begins

@@ -1,10 +1,11 @@
 use Rattle.std.proofs.Common.{[], ap, refl, ◌∙◌}
 use Rattle.core.specs.Option.{option_or}
-use Rattle.route_lanes.specs.Visits.{unvisited}
+use Rattle.route_lanes.specs.Visits.{first_told, unvisited}
 use Rattle.route_lanes.proofs.VisitLemmas.{before_visits, so_far_more}
 use Rattle.route_lanes.proofs.visits.serve_door.Goals as goal
 
 pub links-init : goal.links-init
+unfolding first_told
 links-init g c = record {
   ready = c.requires.ready;
   so_far = record { visits = []; led = unvisited; back = before_visits (g.D.Door.state c.args.door.now); wants = refl };

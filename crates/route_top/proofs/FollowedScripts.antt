@@ -1,9 +1,9 @@
 -- What sessions beside feeds have replied to their scripts, and what was written of an operator's, where no lane wanted memory.
-use Rattle.std.proofs.Common.{◌≡◌, ◌≢◌, ℕ, ◌≤◌, List, [], ◌∷◌, ◌++◌, length, map, take, drop, refl, ap, ap₂, sym, subst, ◌∙◌, arith, Ok, Err}
+use Rattle.std.proofs.Common.{◌≡◌, ◌≢◌, ℕ, ◌≤◌, List, [], ◌∷◌, ◌++◌, length, map, take, drop, refl, ap, ap₂, sym, subst, ◌∙◌, arith, false, Ok, Err}
 use Rattle.std.specs.Prelude.{All, Option, Result}
 use Rattle.std.proofs.lemmas.List.{length-map}
 use Rattle.arc_graph.specs.Graph.{Graph, Match, Weights, network}
-use Rattle.arc_graph.specs.History.{IsOperator, Operator, sets}
+use Rattle.arc_graph.specs.History.{IsOperator, Operator, sets, with_none_pending}
 use Rattle.arc_graph.specs.History.HistoryEntry.{Closed}
 use Rattle.epoch_follow.specs.Text.{feed_text, head_of}
 use Rattle.epoch_follow.specs.Takes.{feed_starved}
@@ -147,7 +147,7 @@ module _ (asked : WriteWords) (g : Graph) (w : Weights) (matched : Match g w) (s
           operator = replies.exchanges;
           operator_exchange = record { run = replies.runs; lines = replies.lines };
           graph = written.is_graph;
-          limits = limits_of o first base written.left written.operator;
+          limits = limits_of o first base (with_none_pending written.left) written.operator;
           text_is = refl;
         };
         sends = subst (λ (n : ℕ). Sends out sent (feed_text (head_of g n) written.left.published 1 (sets written.left.published)) result) first written.sends;

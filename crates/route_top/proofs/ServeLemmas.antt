@@ -71,10 +71,10 @@ town_replies asked net old new out replied outcome (refused faults rose becomes 
 town_replies asked net old new out replied outcome (listened mid doors after hands does back) = doors_reply asked out replied does
 
 -- a town that doesn't listen ends the run
-pub not_listened : (asked : ServeWords) (net : Network) (old new : TownState) (out : SinkState) (fault : TownFault)
-    → Listens old new asked.lanes asked.links (Err fault) → ServesTown asked net old new out out (outcome_of (stop_of_town fault))
-not_listened asked net old new out town.Failed is = refused is.0 is.1 is.2 refl
-not_listened asked net old new out (town.OutOfMemory want) is = unheard is refl
+pub not_listened : (asked : ServeWords) (net : Network) (old new : TownState) (out : SinkState) (fault : TownFault) (lanes links : ℕ)
+    → Listens old new lanes links (Err fault) → ServesTown asked net old new out out (outcome_of (stop_of_town fault))
+not_listened asked net old new out town.Failed lanes links is = refused is.0 is.1 is.2 refl
+not_listened asked net old new out (town.OutOfMemory want) lanes links is = unheard is refl
 
 -- doors that weren't asked for a link, since it couldn't be said that links may come in
 pub not_ready : (asked : ServeWords) (net : Network) (doors : List DoorState) (out replied : SinkState) (fault : WriteFault)

@@ -84,7 +84,7 @@ unguarded : (IsBye : List ℕ → Type 0) (script : List ℕ) (lines : List (Lis
     → AreLinesOf script IsBye lines
 unguarded IsBye script lines (inl all) = inl all
 unguarded IsBye script lines (inr (bye, inl is, begins)) = inr (bye, is, begins)
-unguarded IsBye script lines (inr (bye, inr (no, http), begins)) = absurd cc
+unguarded IsBye script lines (inr (bye, inr (off, http), begins)) = let wrong : false ≡ true = off in absurd cc
 
 -- What a lane that wanted no memory has replied to its script.
 pub record HasReplied {State : Type 0} (Progresses : State → List Exchange → State → Type 0) (IsBye : List ℕ → Type 0) (old new : State)
@@ -111,7 +111,7 @@ module _ {State : Type 0} (Progresses : State → List Exchange → State → Ty
   has_replied TooLong no_want serves =
       let takes = serves.lines in
       absurd (omega (arith, short, takes.begun.0, ap length takes.takes, length-append takes.taken rest))
-  has_replied (OutOfMemory want) no_want serves = absurd (no_want refl)
+  has_replied (OutOfMemory want) no_want serves = let wrong : true ≡ false = no_want in absurd cc
 
 -- what holds of what a list is mapped to
 pub all_of_map : {A B : Type 0} (P : B → Type 0) (f : A → B) (xs : List A) → All P (map f xs) → All (λ x. P (f x)) xs

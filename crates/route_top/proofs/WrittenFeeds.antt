@@ -66,11 +66,11 @@ module _ (words : List (List ℕ)) (files : FileMap) (asked : Command) (is : Ask
       → outcome ≡ done → Ends (Some files) asked done text
   asks_so (no_command none) told e = absurd cc
   asks_so starved told e = absurd cc
-  asks_so {outcome} {text} {files'} (asks other is_other ends) told e =
+  asks_so {outcome} {text} {told} (asks other is_other ends) is_told e =
       let both : Some other ≡ Some asked = sym is_other ∙ is in
       let same : other ≡ asked = cc both in
       subst (λ o. Ends (Some files) asked o text) e
-      (subst (λ a. Ends (Some files) a outcome text) same (subst (λ fs. Ends fs other outcome text) told ends))
+      (subst (λ a. Ends (Some files) a outcome text) same (subst (λ fs. Ends fs other outcome text) is_told ends))
 
   ends_so : {outcome : Outcome} {text : List ℕ} {told : Option FileMap} → EndsOrCut (EndsByWords Ends (Asks words) told) outcome text → told ≡ Some files
       → outcome ≡ done → Ends (Some files) asked done text

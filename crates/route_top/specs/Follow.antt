@@ -5,7 +5,7 @@ use Rattle.std.specs.List.{AllZip, range_with_len}
 use Rattle.route_io.specs.Files.{FileMap}
 use Rattle.road_network.specs.Network.{Network}
 use Rattle.arc_graph.specs.Graph.{IsGraph}
-use Rattle.arc_graph.specs.History.{History, IsOperator, Operator, sets}
+use Rattle.arc_graph.specs.History.{History, IsOperator, Operator, sets, with_none_pending}
 use Rattle.arc_graph.specs.History.HistoryEntry.{Closed}
 use Rattle.answer_writer.specs.Replies.{and_number, end_line}
 use Rattle.epoch_follow.specs.Runs.{feed_run, last_epoch}
@@ -43,7 +43,7 @@ pub record FeedOfScript (asked : WriteWords) (net : Network) (scripts : List (Li
   pub operator : List Exchange
   pub operator_exchange : IsOperatorExchange origin script left operator
   pub graph : IsGraph (graph_of net)
-  pub limits : IsOperator (length net.ends) net.criteria asked.epoch left
+  pub limits : IsOperator (length net.ends) net.criteria asked.epoch (with_none_pending left)
   pub text_is : text ≡ feed_text (head_of (graph_of net) asked.epoch) left.published 1 (sets left.published)
 
 -- the feed is sent, unless memory runs out in the operator's lane or before

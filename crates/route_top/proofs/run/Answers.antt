@@ -32,13 +32,13 @@ returns-in-Ok-Waiting-clause-town g c =
     let asks = subst (λ (k : Command). Asks (texts_of c.args.words.now) k) c.in-Ok-Waiting.field-0-is c.in-Ok-Waiting.ensures in
     town_by (texts_of c.args.words.now) _ _ _ _ _ (Waiting c.in-Ok-Waiting.command) asks c.run_waiting.ensures.town
 
-pub returns-clause-runs : goal.returns-clause-runs
-returns-clause-runs g c =
+pub returns-in-Err-clause-runs : goal.returns-in-Err-clause-runs
+returns-in-Err-clause-runs g c =
     nothing_read Ends (Asks (texts_of c.args.words.now)) (texts_of c.args.words.now) _ _ c.in-Err.fault c.in-Err.ensures
     (λ none asks. let also = asks.1 in cc)
 
-pub returns-clause-town : goal.returns-clause-town
-returns-clause-town g c = town_unread (texts_of c.args.words.now) _ _ _ _ _ c.in-Err.fault c.in-Err.ensures refl refl
+pub returns-in-Err-clause-town : goal.returns-in-Err-clause-town
+returns-in-Err-clause-town g c = town_unread (texts_of c.args.words.now) _ _ _ _ _ c.in-Err.fault c.in-Err.ensures refl refl
 
 pub carry_out-requires : goal.carry_out-requires
 carry_out-requires g c =

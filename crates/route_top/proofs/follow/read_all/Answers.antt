@@ -20,9 +20,10 @@ returns-in_err-scripts-clause-stopped g c =
     (rw (c.text.ensures, c.get.ensures.value) at c.in_ok-feeds.ensures.read)
     (rw (c.text-2.ensures, c.get-2.ensures.value, c.in_ok-feeds.ensures.folder.files) at c.in_err-scripts.ensures.stopped))
 
-pub returns-in_default-clause-stopped : goal.returns-in_default-clause-stopped
-returns-in_default-clause-stopped g c =
+pub returns-in_err-links-clause-stopped : goal.returns-in_err-links-clause-stopped
+returns-in_err-links-clause-stopped g c =
+    let p = err_from_is_err_and c.from_residual-in_err-links.result c.from_residual-in_err-links.ensures.1 in
     let asked = c.args.asked.now in
     let feeds = feeds_of asked in
-    starves_first _ (feeds ++ sessions_of asked)
-    (omega (arith, length-append feeds (sessions_of asked), count_numbered asked.feeds asked.links))
+    rw (p.1, p.2) (starves_first _ (feeds ++ sessions_of asked)
+    (omega (arith, length-append feeds (sessions_of asked), count_numbered asked.feeds asked.links)))

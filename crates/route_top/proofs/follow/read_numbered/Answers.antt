@@ -27,8 +27,8 @@ returns-in_err-bytes-clause-stopped g c =
     rw (p.1, p.2) (stops_at _ (numbered stem c.args.count) n within _ c.loop-place.invariant.read
     (rw (numbered_at stem c.args.count n inside, c.loop-place.invariant.folder.files) at c.in_err-bytes.ensures.read))
 
-pub returns-then-is_err-clause-stopped : goal.returns-then-is_err-clause-stopped
-returns-then-is_err-clause-stopped g c =
+pub returns-in-Err-clause-stopped : goal.returns-in-Err-clause-stopped
+returns-in-Err-clause-stopped g c =
     let stem = c.args.stem.now in
     let n = c.loop-place.place in
     let inside : n < c.args.count = omega (arith, c.loop-place-test.true, c.loop-place.auto.place-end) in

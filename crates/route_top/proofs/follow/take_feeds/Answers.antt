@@ -95,8 +95,8 @@ returns-in_err-put_report g c =
     let short = all_short {L = SureLink} (λ l. l.from) files (sessions_of asked) got.links.items got.ensures.sessions in
     let count = count_feeds files (feeds_of asked) got.feeds.items got.ensures.feeds ∙ count_numbered asked.feeds asked.links in
     let replies = followed_over {L = SureLink} (λ l. l.from) (λ l. l.to) asked _ _ c.in_ok-graph.ensures.matched got.feeds.items _ _ got.links.items _ _ _ _ _ _
-    c.deref_mut.ensures.value c.deref_mut-2.ensures.value got.links.ok.0 c.deref.ensures.value c.feeds.ensures (rw c.get-budget.ensures.value at c.in_ok-report.ensures.served) count short
-    got.ensures.unsent c.in_ok-feeds_sufficed.ensures c.in_ok-memory_sufficed.ensures in
+    c.deref_mut.ensures.value c.deref_mut-2.ensures.value got.links.ok.0 c.deref.ensures.value c.feeds-2.ensures (rw c.get-budget.ensures.value at c.in_ok-report.ensures.served) count short
+    got.ensures.unsent (rw c.feeds.ensures at c.in_ok-feeds_sufficed.ensures) (rw c.lanes.ensures at c.in_ok-memory_sufficed.ensures) in
     rw (p.1, p.2) (ends_over_named (TakeReplies asked) asked.files (feeds_of asked ++ sessions_of asked) _ _ _ _ read c.in_ok-graph.ensures.folder
     _ _ _ _ says got.ensures.folder (sends_part (TakeReplies asked _ _) _ replies _ _ _ c.in_err-put_report.ensures))
 
@@ -110,7 +110,7 @@ returns g c =
     let short = all_short {L = SureLink} (λ l. l.from) files (sessions_of asked) got.links.items got.ensures.sessions in
     let count = count_feeds files (feeds_of asked) got.feeds.items got.ensures.feeds ∙ count_numbered asked.feeds asked.links in
     let replies = followed_over {L = SureLink} (λ l. l.from) (λ l. l.to) asked _ _ c.in_ok-graph.ensures.matched got.feeds.items _ _ got.links.items _ _ _ _ _ _
-    c.deref_mut.ensures.value c.deref_mut-2.ensures.value got.links.ok.0 c.deref.ensures.value c.feeds.ensures (rw c.get-budget.ensures.value at c.in_ok-report.ensures.served) count short
-    got.ensures.unsent c.in_ok-feeds_sufficed.ensures c.in_ok-memory_sufficed.ensures in
+    c.deref_mut.ensures.value c.deref_mut-2.ensures.value got.links.ok.0 c.deref.ensures.value c.feeds-2.ensures (rw c.get-budget.ensures.value at c.in_ok-report.ensures.served) count short
+    got.ensures.unsent (rw c.feeds.ensures at c.in_ok-feeds_sufficed.ensures) (rw c.lanes.ensures at c.in_ok-memory_sufficed.ensures) in
     ends_over_named (TakeReplies asked) asked.files (feeds_of asked ++ sessions_of asked) _ _ _ _ read c.in_ok-graph.ensures.folder
     _ _ _ _ says got.ensures.folder (sends_whole (TakeReplies asked _ _) _ replies _ _ c.in_ok-put_report.ensures)

@@ -32,8 +32,8 @@ returns-in_err-bytes-clause-stopped g c =
     rw (p.1, p.2) (stops_at _ names c.loop-number.number inside _ c.loop-number.invariant.read
     (rw (c.script_at.ensures, c.loop-number.invariant.folder.files) at c.in_err-bytes.ensures.read))
 
-pub returns-then-is_err-clause-stopped : goal.returns-then-is_err-clause-stopped
-returns-then-is_err-clause-stopped g c =
+pub returns-in-Err-clause-stopped : goal.returns-in-Err-clause-stopped
+returns-in-Err-clause-stopped g c =
     let names = scripts_of c.args.asked.now in
     let inside : c.loop-number.number < length names =
     omega (arith, c.loop-number-test.true, c.loop-number.auto.number-end, count_scripts c.args.asked.now) in

@@ -10,7 +10,7 @@ use Rattle.route_top.proofs.serve.serve_town.Goals as goal
 pub returns-in_err-doors : goal.returns-in_err-doors
 returns-in_err-doors g c =
     let p = err_from_is_err_and c.from_residual.result c.from_residual.ensures.1 in
-    rw (p.1, p.2) (not_listened c.args.asked.now _ _ _ _ _ (rw (c.get-lanes.ensures.value, c.get-links.ensures.value) at c.in_err-doors.ensures))
+    rw (p.1, p.2) (not_listened c.args.asked.now _ _ _ _ _ c.get-lanes.result c.get-links.result c.in_err-doors.ensures)
 
 pub take_back-requires-clause-places : goal.take_back-requires-clause-places
 take_back-requires-clause-places g c =

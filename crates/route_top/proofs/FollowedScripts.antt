@@ -1,5 +1,5 @@
 -- What sessions beside feeds have replied to their scripts, and what was written of an operator's, where no lane wanted memory.
-use Rattle.std.proofs.Common.{◌≡◌, ◌≢◌, ℕ, ◌≤◌, List, [], ◌∷◌, ◌++◌, length, map, take, drop, refl, ap, ap₂, sym, subst, ◌∙◌, arith, false, Ok, Err}
+use Rattle.std.proofs.Common.{◌≡◌, ℕ, ◌≤◌, List, [], ◌∷◌, ◌++◌, length, map, take, drop, refl, ap, ap₂, sym, subst, ◌∙◌, arith, false, Ok, Err}
 use Rattle.std.specs.Prelude.{All, Option, Result}
 use Rattle.std.proofs.lemmas.List.{length-map}
 use Rattle.arc_graph.specs.Graph.{Graph, Match, Weights, network}

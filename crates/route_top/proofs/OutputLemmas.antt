@@ -2,8 +2,6 @@
 use Rattle.std.proofs.Common.{◌≢◌, ℕ, List}
 use Rattle.std.specs.Prelude.{Option}
 use Rattle.route_io.specs.Files.{FileMap}
-use Rattle.route_io.specs.Sinks.{SinkState}
-use Rattle.route_io.specs.Sources.{SourceState}
 use Rattle.command_words.specs.declared.commands.Command.{Command}
 use Rattle.command_words.specs.declared.commands.Command.TheVariants.{Still, Waiting}
 use Rattle.command_words.specs.declared.commands.FollowWords.{FollowWords}

@@ -18,9 +18,7 @@ use Rattle.out_of_memory.specs.declared.OutOfMemory.{OutOfMemory}
 use Rattle.road_network.specs.Network.{Network}
 use Rattle.command_words.specs.Words.{Asks, Fails, asked}
 use Rattle.command_words.specs.declared.commands.Command.{Command}
-use Rattle.command_words.specs.declared.commands.Command.TheVariants.{Waiting}
 use Rattle.command_words.specs.declared.commands.ServeWords.{ServeWords}
-use Rattle.command_words.specs.declared.commands.WaitingCommand.TheVariants.{Serve}
 use Rattle.command_words.specs.declared.fault.WordsFault.{WordsFault}
 use Rattle.command_words.specs.declared.fault.WordsFault.TheVariants as reading
 use Rattle.route_lanes.proofs.VisitLemmas.{count_first}

@@ -1,5 +1,5 @@
 -- What lanes that served scripts have replied, where none of them wanted memory.
-use Rattle.std.proofs.Common.{◌≡◌, ◌≢◌, ◌∙◌, ℕ, ◌^◌, ◌≤◌, Bool, true, false, cond, if◌then◌else◌, List, [], ◌∷◌, ◌++◌, Option, Some, length, take, drop, filter, map, inl, inr, refl, sym, ap, subst, arith, append_assoc, length-append, append-nil}
+use Rattle.std.proofs.Common.{◌≡◌, ◌∙◌, ℕ, ◌^◌, ◌≤◌, Bool, true, false, cond, if◌then◌else◌, List, [], ◌∷◌, ◌++◌, Option, Some, length, take, drop, filter, map, inl, inr, refl, sym, ap, subst, arith, append_assoc, length-append, append-nil}
 use Rattle.std.specs.List.{AllZip, onto_first}
 use Rattle.std.specs.Prelude.{All}
 use mathlib.Core.List.{IsPrefix}

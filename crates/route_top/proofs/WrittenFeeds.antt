@@ -1,5 +1,5 @@
 -- What a feed that one run has written leads another one to.
-use Rattle.std.proofs.Common.{◌≡◌, ◌⊎◌, inl, inr, ℕ, ◌≤◌, false, true, List, [], ◌∷◌, ◌++◌, Option, Some, None, length, map, refl, sym, ap, ap₂, subst, ◌∙◌, arith}
+use Rattle.std.proofs.Common.{◌≡◌, inl, inr, ℕ, ◌≤◌, false, List, [], ◌∷◌, ◌++◌, Option, Some, length, map, refl, sym, ap, ap₂, subst, ◌∙◌, arith}
 use Rattle.std.specs.Prelude.{All, Contains, IsSomeAnd}
 use Rattle.std.specs.List.{AllZip}
 use Rattle.std.proofs.lemmas.List.FromFn.{length-map-range_with_len}
@@ -33,13 +33,13 @@ use Rattle.command_words.specs.declared.commands.FollowWords.TheVariants.{Take, 
 use Rattle.command_words.specs.declared.commands.TakeWords.{TakeWords}
 use Rattle.command_words.specs.declared.commands.WaitingCommand.TheVariants.{Follow}
 use Rattle.command_words.specs.declared.commands.WriteWords.{WriteWords}
-use Rattle.still_commands.specs.FilesRead.{FilesEnd, FilesStop, HasFile, ReadAs, Says, at_file, disagree, failed as unread, faulty, goes_on, reading_limits, starved as starved_in, stops, unjoined}
+use Rattle.still_commands.specs.FilesRead.{FilesEnd, FilesStop, ReadAs, Says, at_file, disagree, failed as unread, faulty, goes_on, reading_limits, starved as starved_in, stops, unjoined}
 use Rattle.still_commands.specs.Outcome.{Outcome, bad_cert, bad_file, bad_files, bad_pairs, bad_words, done, failed_rule, folder_failed, no_memory, out_failed, out_wanted, refused, script_too_long, status_of, town_failed}
 use Rattle.still_commands.specs.Output.{EndsByWords, EndsOrCut, asks, failed, no_command, starved, uncut, wanted}
 use Rattle.route_top.specs.Ends.{Ends}
 use Rattle.route_top.specs.Follow.{FeedOfScript, FollowEnds, RepliesBesideFeeds, TakeReplies, WriteReplies, history_after}
 use Rattle.route_top.specs.Followed.{FollowsHistory, LeadsFollowers, RunSends, TakesFrontsOf}
-use Rattle.route_top.specs.Lanes.{SaysScript, ScriptStop, ScriptsEnd, ScriptsStop, failed as script_failed, graph_of, max_script, scripts_read, scripts_stop, starved as script_starved, too_long}
+use Rattle.route_top.specs.Lanes.{SaysScript, ScriptStop, ScriptsEnd, failed as script_failed, graph_of, max_script, scripts_read, scripts_stop, starved as script_starved, too_long}
 use Rattle.route_top.proofs.LeaderFeeds.{after_keeps, one_keeps, written_comes}
 
 -- ---- a run that ended with status 0

@@ -1,4 +1,4 @@
-use Rattle.std.proofs.Common.{ap, arith, length, refl}
+use Rattle.std.proofs.Common.{ap, arith, length}
 use Rattle.route_io.specs.declared.link.Link.{Link}
 use Rattle.route_io.specs.declared.sure.SureSink.{SureSink}
 use Rattle.route_io.specs.declared.sure.SureSource.{SureSource}

@@ -10,7 +10,6 @@ use crate::settled::settle_all;
 use crate::{Core, Settled};
 use bulk_rounds::Begun;
 use out_of_memory::OutOfMemory;
-use route_io::Gate;
 use settled_front::SettledFront;
 use std::alloc::Global;
 use std::sync::ledger::Ledger;
@@ -18,7 +17,7 @@ use std::thread::Threads;
 use stored_cost::StoredCost;
 use waiting_item::Item;
 use waiting_queue::{Queue, Steps};
-use work_claim::Workers;
+use work_claim::{Gate, Workers};
 
 impl<const D: usize, F: SettledFront<D> + Sync> Core<D, F>
 where

@@ -1,7 +1,6 @@
 ghost use Rattle.std.specs.Prelude.{◌≡◌, ◌≤◌, ◌⊎◌, ◌↔◌, IsTrue};
 
-use route_io::Gate;
-use work_claim::Workers;
+use work_claim::{Gate, Workers};
 
 /// From how many workers on rounds take less time than one worker's search in the order of cost.
 const MANY_WORKERS: u32 = 8;

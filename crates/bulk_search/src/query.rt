@@ -15,7 +15,6 @@ use bulk_rounds::Begun;
 use found_fronts::{Findings, FoundAtWidth};
 use out_of_memory::OutOfMemory;
 use road_network::{Query, SearchFault};
-use route_io::Gate;
 use settled_front::{NarrowFront, SettledFront, StairFront};
 use std::alloc::Global;
 use std::sync::ledger::Ledger;
@@ -23,7 +22,7 @@ use std::thread::Threads;
 use stored_cost::{NarrowCost, StoredCost, WideCost};
 use waiting_queue::Steps;
 use walk_readback::FoundCosts;
-use work_claim::Workers;
+use work_claim::{Gate, Workers};
 
 /// Answers a query: the settled costs of what was found are exactly its relevant pairs. Its rounds are counted.
 pub fn search<R: Threads + Sync, G: Gate, L: Ledger>(

@@ -20,7 +20,6 @@ use found_fronts::{FoundAtWidth, FoundFronts};
 use out_of_memory::OutOfMemory;
 use road_network::Query;
 use round_work::{RelaxFault, merge, relax};
-use route_io::Gate;
 use settled_front::{NarrowFront, SettledFront};
 use std::alloc::Global;
 use std::sync::ledger::Ledger;
@@ -28,7 +27,7 @@ use std::thread::Threads;
 use stored_cost::{NarrowCost, StoredCost, WideCost};
 use waiting_item::Item;
 use waiting_queue::{Look, Steps, labels_of_spots};
-use work_claim::Workers;
+use work_claim::{Gate, Workers};
 
 /// A search by rounds at one width, and room for what each of them gives.
 #[derive(Drop)]

@@ -7,13 +7,12 @@ use crate::query::search;
 use arc_graph::Network;
 use found_fronts::Findings;
 use road_network::{Query, SearchFault};
-use route_io::Gate;
 use std::alloc::Global;
 use std::marker::Brand;
 use std::sync::ledger::{Blank, Ledger};
 use std::thread::Threads;
 use waiting_queue::Steps;
-use work_claim::Workers;
+use work_claim::{Gate, Workers};
 
 /// Answers a query as `search` does, where nobody counts its rounds.
 pub fn find<R: Threads + Sync, G: Gate>(

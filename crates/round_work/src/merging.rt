@@ -7,13 +7,12 @@ ghost use Rattle.round_work.specs.Survivors.{KeepsNeeded, KeepsSurvivors};
 use crate::groups::{list_groups, sort_by_node};
 use crate::runs::{GroupRuns, run_size};
 use out_of_memory::OutOfMemory;
-use route_io::{Gate, OpenGate, Phase};
 use std::alloc::Global;
 use std::thread::Threads;
 use stored_cost::StoredCost;
 use waiting_item::Item;
 use waiting_queue::Look;
-use work_claim::{Workers, run_pieces};
+use work_claim::{Gate, OpenGate, Phase, Workers, run_pieces};
 
 /// Keeps of the candidates exactly those spots that are open and that no other open candidate of their node dominates, each
 /// once, for every number of workers. The candidates of each node are a group, which passes the gate before it is merged;

@@ -8,12 +8,11 @@ ghost use Rattle.round_work.specs.declared.fault.RelaxFault.TheVariants as fault
 use crate::RelaxFault;
 use crate::pieces::TakenItems;
 use arc_graph::Network;
-use route_io::{Gate, Phase};
 use std::alloc::Global;
 use std::thread::Threads;
 use stored_cost::StoredCost;
 use waiting_item::Item;
-use work_claim::{Workers, run_pieces};
+use work_claim::{Gate, Phase, Workers, run_pieces};
 
 /// The candidates that the taken items give, in the order of the items, for every number of workers: for each arc that leads
 /// from an item's node, isn't shut and doesn't lead straight back, in ascending order, the arc's head at the item's cost with

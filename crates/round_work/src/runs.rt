@@ -10,12 +10,11 @@ ghost use Rattle.round_work.specs.Survivors.{KeepsNeeded};
 
 use crate::pieces::cut;
 use out_of_memory::OutOfMemory;
-use route_io::{Gate, Phase};
 use std::alloc::Global;
 use stored_cost::StoredCost;
 use waiting_item::Item;
 use waiting_queue::Look;
-use work_claim::{Job, Workers};
+use work_claim::{Gate, Job, Phase, Workers};
 
 /// At most so many runs come to each worker on the average: so many that the work is shared evenly, and so few that it takes
 /// little to share it.

@@ -1,5 +1,4 @@
-//! The outside as the program sees it: sources of bytes, sinks of bytes, and folders of named files; and the gate that
-//! pieces of work pass, by which tests see what runs side by side.
+//! The outside as the program sees it: sources of bytes, sinks of bytes, and folders of named files.
 //!
 //! Each trait counts its faults, so that a caller's contract can say that a failure was the outside's and not
 //! its own. The forms in memory tell their bytes to contracts; those of the host tell nothing.
@@ -9,7 +8,6 @@ pub mod calls;
 mod fault;
 mod folder;
 mod front;
-mod gate;
 pub mod host;
 mod link;
 pub mod memory;
@@ -20,7 +18,6 @@ pub mod sure;
 
 pub use fault::{Failed, WriteFault};
 pub use folder::Folder;
-pub use gate::{Gate, OpenGate, Phase};
 pub use link::{Link, MemoryLink, SureLink};
 pub use sink::{Sink, put_all};
 pub use source::Source;

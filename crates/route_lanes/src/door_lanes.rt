@@ -13,11 +13,12 @@ use crate::visits::{Attendant, DoorTally, serve_door};
 use core::mem::replace_with;
 use epoch_store::{Operator, Store};
 use link_doors::Door;
-use route_io::{Gate, Link};
+use route_io::Link;
 use session_core::{ServeContext, Session, serve_operator};
 use std::sync::Wait;
 use std::thread::Threads;
 use std::time::Clock;
+use work_claim::Gate;
 
 impl<T: Store, R, G> Attendant<ServeContext<'_, R, G>> for Operator<T> {
     ghost use Rattle.std.specs.Prelude.{◌≡◌, []};

@@ -18,12 +18,13 @@ use crate::session_lane::{SessionLane, end_store, report_sessions, session_lanes
 use arc_graph::Weights;
 use epoch_store::{Chronicle, Store, make};
 use out_of_memory::OutOfMemory;
-use route_io::{Gate, Link, Sink, Source};
+use route_io::{Link, Sink, Source};
 use session_core::{ServeContext, SessionEnd};
 use std::marker::{Brand, Model};
 use std::sync::Wait;
 use std::thread::Threads;
 use std::time::Clock;
+use work_claim::Gate;
 
 /// What became of the feeds that a follower took, and of the sessions beside it.
 #[derive(Drop)]

@@ -9,11 +9,12 @@ use crate::operator_lane::OperatorLane;
 use crate::service::serve_all;
 use crate::session_lane::SessionLane;
 use epoch_store::Store;
-use route_io::{Gate, Link, Sink, Source};
+use route_io::{Link, Sink, Source};
 use session_core::{ServeContext, SessionEnd};
 use std::sync::Wait;
 use std::thread::Threads;
 use std::time::Clock;
+use work_claim::Gate;
 
 /// Has all lanes serve their links at once, the operator's the first.
 pub(crate) fn serve_links<

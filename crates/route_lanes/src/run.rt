@@ -14,13 +14,14 @@ use crate::session_lane::{SessionLane, end_store, report_sessions, session_lanes
 use arc_graph::Weights;
 use epoch_store::{Chronicle, Store, make};
 use out_of_memory::OutOfMemory;
-use route_io::{Gate, Link, Sink, Source};
+use route_io::{Link, Sink, Source};
 use session_core::{ServeContext, SessionEnd};
 use std::alloc::Global;
 use std::marker::Brand;
 use std::sync::Wait;
 use std::thread::Threads;
 use std::time::Clock;
+use work_claim::Gate;
 
 /// Serves all links at once, the operator's first, on the caller's thread, and up to 16 sessions', each on one of its own; where none
 /// can be started the caller's does its work. When the operator's link has ended the store is closed, and each session's lane

@@ -15,12 +15,12 @@ use arc_graph::Weights;
 use epoch_store::{Chronicle, Store, make};
 use link_doors::Door;
 use out_of_memory::OutOfMemory;
-use route_io::Gate;
 use session_core::ServeContext;
 use std::marker::Brand;
 use std::sync::Wait;
 use std::thread::Threads;
 use std::time::Clock;
+use work_claim::Gate;
 
 /// What became of doors that were served until each had ended or failed.
 #[derive(Clone, Copy, Debug, PartialEq, Eq)]

@@ -11,12 +11,13 @@ use crate::operator_lane::StoreState;
 use crate::report::LaneReport;
 use epoch_store::{Ended, EpochReader, Store};
 use out_of_memory::OutOfMemory;
-use route_io::{Gate, Link, Sink, Source};
+use route_io::{Link, Sink, Source};
 use session_core::{ServeContext, Session, SessionEnd};
 use std::alloc::Global;
 use std::sync::Wait;
 use std::thread::Threads;
 use std::time::Clock;
+use work_claim::Gate;
 
 /// A session's lane, and what became of its link or its door.
 #[derive(Drop)]

@@ -5,11 +5,12 @@ ghost use Rattle.std.specs.Prelude.{◌≡◌};
 
 use link_doors::HostTown;
 use route_io::host::{HostFolder, HostSink};
-use route_io::{OpenGate, Sink, put_all};
+use route_io::{Sink, put_all};
 use route_top::{WANT_OF_MEMORY, route};
 use std::env::{self, Env};
 use std::io;
 use std::process::ExitCode;
+use work_claim::OpenGate;
 
 fn main(rt: HostRuntime) -> ExitCode {
     let alloc = rt.alloc();

@@ -1,12 +1,12 @@
 use link_doors::MemoryTown;
 use route_io::memory::{MemoryFolder, MemorySink, NamedFile};
-use route_io::{Gate, OpenGate};
 use route_top::{route, run_still};
 use std::alloc::{AllocError, Global};
 use std::process::Abort;
 use std::sync::Wait;
 use std::thread::Threads;
 use std::time::Clock;
+use work_claim::{Gate, OpenGate};
 
 mod batches;
 mod certificates;

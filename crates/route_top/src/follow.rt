@@ -21,7 +21,7 @@ use command_words::{FollowWords, TakeWords, WriteWords};
 use epoch_follow::FeedEnd;
 use out_of_memory::OutOfMemory;
 use route_io::sure::{SureSink, SureSource};
-use route_io::{Folder, Gate, Link, Sink, SureLink, WriteFault};
+use route_io::{Folder, Link, Sink, SureLink, WriteFault};
 use route_lanes::{FeedReport, FollowReport, run_follow, write_feed};
 use session_core::ServeContext;
 use std::alloc::Global;
@@ -29,7 +29,7 @@ use std::sync::Wait;
 use std::thread::Threads;
 use std::time::Clock;
 use still_commands::{Script, Stop, read_network};
-use work_claim::{Helpers, Workers};
+use work_claim::{Gate, Helpers, Workers};
 
 /// Writes the feed of an operator's script, or takes feeds and serves sessions beside them, over the named files.
 pub(crate) fn run<'a, R: Threads + Wait + Clock + Sync, G: Gate, F: Folder, K: Sink>(

@@ -18,7 +18,7 @@ use answer_writer::{Piece, put_line};
 use command_words::LanesWords;
 use out_of_memory::OutOfMemory;
 use route_io::sure::{SureSink, SureSource};
-use route_io::{Folder, Gate, Link, Sink, SureLink, WriteFault, put_all};
+use route_io::{Folder, Link, Sink, SureLink, WriteFault, put_all};
 use route_lanes::{LaneReport, run_lanes};
 use session_core::{LinkPolicy, ServeContext, SessionEnd};
 use std::alloc::Global;
@@ -26,7 +26,7 @@ use std::sync::Wait;
 use std::thread::Threads;
 use std::time::Clock;
 use still_commands::{Script, Stop, read_network};
-use work_claim::{Helpers, Workers};
+use work_claim::{Gate, Helpers, Workers};
 
 /// The most bytes that are taken from a link. No script has as many.
 pub(crate) const MAX_TAKEN: u64 = 1 << 40;

@@ -23,13 +23,14 @@ pub use laws::{
     written_feeds_lead_their_followers,
 };
 use link_doors::Town;
-use route_io::{Folder, Gate, Sink};
+use route_io::{Folder, Sink};
 use std::alloc::Global;
 use std::sync::Wait;
 use std::thread::Threads;
 use std::time::Clock;
 pub use still_commands::{WANT_OF_MEMORY, run_still};
 use still_commands::{Stop, carry_out, end};
+use work_claim::Gate;
 
 /// Runs the command that the words ask for over the folder's files, and answers the exit status. Replies go to `out`.
 /// On each status but 0 and 8 one line goes to `err`, whose faults only cut that line. `serve` asks the town for doors, and

@@ -16,7 +16,7 @@ use arc_graph::Weights;
 use command_words::ServeWords;
 use link_doors::{Door, Town};
 use out_of_memory::OutOfMemory;
-use route_io::{Folder, Gate, Sink, WriteFault};
+use route_io::{Folder, Sink, WriteFault};
 use route_lanes::{Served, serve_lanes};
 use session_core::{LinkPolicy, ServeContext};
 use std::alloc::Global;
@@ -24,7 +24,7 @@ use std::sync::Wait;
 use std::thread::Threads;
 use std::time::Clock;
 use still_commands::{Stop, read_network};
-use work_claim::{Helpers, Workers};
+use work_claim::{Gate, Helpers, Workers};
 
 /// How each link is served: a line of HTTP ends it, so that no web page can have a line obeyed.
 const SERVE_POLICY: LinkPolicy = LinkPolicy {

@@ -16,12 +16,12 @@ use answer_writer::{put_answer, put_first_line, put_refusal};
 use arc_graph::Network;
 use bulk_search::rounds_pay;
 use road_network::{AnswerKind, Query, SearchFault};
-use route_io::{Gate, Sink, WriteFault};
+use route_io::{Sink, WriteFault};
 use std::alloc::Global;
 use std::thread::Threads;
 use sweep_search::search_toward;
 use walk_readback::{FoundCosts, Room};
-use work_claim::Workers;
+use work_claim::{Gate, Workers};
 
 /// Who replies to queries over one network, each searched in one way: one worker searches, or so many that it pays share the
 /// rounds of a plain search.

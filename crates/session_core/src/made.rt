@@ -12,10 +12,10 @@ use crate::reply::Reply;
 use out_of_memory::OutOfMemory;
 use road_network::{AnswerKind, Query};
 use route_io::sure::SureSink;
-use route_io::{Gate, Phase, Sink, put_all};
+use route_io::{Sink, put_all};
 use std::thread::Threads;
 use walk_readback::Room;
-use work_claim::{Calls, run_pieces};
+use work_claim::{Calls, Gate, Phase, run_pieces};
 
 /// A reply that was made in memory: what it is, and its text.
 #[derive(Drop)]

@@ -20,10 +20,11 @@ use arc_graph::Network;
 use cost_vector::Limit;
 use epoch_store::{EpochReader, Snapshot, Store};
 use road_network::{AnswerKind, Query};
-use route_io::{Gate, Sink};
+use route_io::Sink;
 use session_requests::SessionRequest;
 use std::thread::Threads;
 use walk_readback::Room;
+use work_claim::Gate;
 
 impl<R: Threads + Sync, G: Gate> ServeContext<'_, R, G> {
     /// Sends the reply to a request at the last epoch that was seen, once it was looked for.

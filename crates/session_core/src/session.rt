@@ -24,7 +24,7 @@ use crate::short::refuse_line;
 use epoch_store::{Ended, EpochReader, Store};
 use line_text::Request;
 use out_of_memory::OutOfMemory;
-use route_io::{Gate, Link, Sink, Source};
+use route_io::{Link, Sink, Source};
 use session_requests::{Line, SessionRequest, read_session_request};
 use std::alloc::Global;
 use std::marker::Model;
@@ -32,6 +32,7 @@ use std::sync::Wait;
 use std::thread::Threads;
 use std::time::Clock;
 use walk_readback::Room;
+use work_claim::Gate;
 
 /// A session lane: a reader of the store, and the numbers of the epochs that its replies have named. Links are served one
 /// after another.

@@ -13,11 +13,11 @@ use arc_graph::Network;
 use out_of_memory::OutOfMemory;
 use road_network::AnswerKind;
 use route_io::sure::SureSink;
-use route_io::{Gate, OpenGate, Phase, Sink, WriteFault, put_all};
+use route_io::{Sink, WriteFault, put_all};
 use std::alloc::Global;
 use std::thread::Threads;
 use walk_readback::{FoundCosts, Room};
-use work_claim::{Job, Workers, run_pieces};
+use work_claim::{Gate, Job, OpenGate, Phase, Workers, run_pieces};
 
 /// How many costs a window has at most. All its texts are in memory before the first of them is sent.
 const WINDOW_SIZE: usize = 4096;

@@ -21,12 +21,12 @@ use gr_reader::FileFault;
 use out_of_memory::OutOfMemory;
 use query_reader::{Pair, read_p2p};
 use road_network::{AnswerKind, Query};
-use route_io::{Folder, Gate, Sink};
+use route_io::{Folder, Sink};
 use session_core::{Answerer, MadeReply, SearchMode};
 use std::alloc::Global;
 use std::thread::Threads;
 use walk_readback::Room;
-use work_claim::{Helpers, Workers};
+use work_claim::{Gate, Helpers, Workers};
 
 /// How many pairs a window has at most. The replies to all of them may be in memory before the first of them is sent.
 const MOST_PAIRS: usize = 1024;

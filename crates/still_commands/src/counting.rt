@@ -17,11 +17,10 @@ use command_words::SearchLimits;
 use out_of_memory::OutOfMemory;
 use query_reader::Pair;
 use road_network::{Query, SearchFault};
-use route_io::Gate;
 use std::alloc::Global;
 use std::thread::Threads;
 use walk_readback::{FoundCosts, Room, walk};
-use work_claim::Workers;
+use work_claim::{Gate, Workers};
 
 /// Who counts what the answers to queries over one network come to.
 #[derive(Drop)]

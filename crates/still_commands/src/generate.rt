@@ -19,11 +19,11 @@ use gen_laws::{
 };
 use graph_gen::{GenPlan, gen_file};
 use out_of_memory::OutOfMemory;
+use route_io::Sink;
 use route_io::sure::SureSink;
-use route_io::{Gate, Sink};
 use std::alloc::Global;
 use std::thread::Threads;
-use work_claim::{Helpers, Workers};
+use work_claim::{Gate, Helpers, Workers};
 
 /// Sends the file that is asked for, or where none is, what all files of the plan come to. It is made in memory first.
 pub(crate) fn run<'a, R: Threads + Sync, G: Gate, K: Sink>(

@@ -26,12 +26,13 @@ mod verify;
 
 use command_words::{Command, StillCommand, WordsFault, read_words};
 pub use network::read_network;
-use route_io::{Folder, Gate, Sink};
+use route_io::{Folder, Sink};
 use status::DONE;
 pub use status::WANT_OF_MEMORY;
 use std::alloc::Global;
 use std::thread::Threads;
 pub use stop::{Script, ScriptFault, Stop};
+use work_claim::Gate;
 
 /// The most bytes of a file.
 pub const MAX_FILE_SIZE: u64 = 1 << 29;

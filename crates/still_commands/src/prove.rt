@@ -17,11 +17,11 @@ use bulk_search::rounds_pay;
 use cert_writer::{list_labels, write_cert};
 use command_words::ProveWords;
 use road_network::{Query, SearchFault};
-use route_io::{Folder, Gate, Sink};
+use route_io::{Folder, Sink};
 use std::alloc::Global;
 use std::thread::Threads;
 use walk_readback::SettledCosts;
-use work_claim::{Helpers, Workers};
+use work_claim::{Gate, Helpers, Workers};
 
 /// Sends a certificate of the answer to one query over the named files.
 pub(crate) fn run<'a, R: Threads + Sync, G: Gate, F: Folder, K: Sink>(

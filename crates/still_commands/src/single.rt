@@ -12,12 +12,12 @@ use crate::stop::Stop;
 use arc_graph::Network;
 use command_words::{GoalWords, SingleWords};
 use road_network::{AnswerKind, Query};
-use route_io::{Folder, Gate, Sink};
+use route_io::{Folder, Sink};
 use session_core::{Answerer, SearchMode};
 use std::alloc::Global;
 use std::thread::Threads;
 use walk_readback::Room;
-use work_claim::{Helpers, Workers};
+use work_claim::{Gate, Helpers, Workers};
 
 /// Answers one query over the named files by a plain search.
 pub(crate) fn run<'a, R: Threads + Sync, G: Gate, F: Folder, K: Sink>(

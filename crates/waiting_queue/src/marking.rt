@@ -8,12 +8,11 @@ use crate::joining::Part;
 use crate::order::is_before;
 use crate::shadow::is_shadowed;
 use out_of_memory::OutOfMemory;
-use route_io::{OpenGate, Phase};
 use std::alloc::Global;
 use std::thread::Threads;
 use stored_cost::StoredCost;
 use waiting_item::Item;
-use work_claim::{Job, Workers, run_pieces};
+use work_claim::{Job, OpenGate, Phase, Workers, run_pieces};
 
 /// At most so many pieces come to each worker on the average: later ones take longer, since more parts come before them.
 const PIECES_PER_WORKER: usize = 8;

@@ -8,7 +8,6 @@ use crate::ranges::{Lists, pass_ranges};
 use crate::sharing::labels_of_spots;
 use crate::{Look, Steps, widen_items};
 use out_of_memory::OutOfMemory;
-use route_io::Gate;
 use std::alloc::Global;
 use std::marker::Model;
 use std::mem;
@@ -16,7 +15,7 @@ use std::sync::ledger::Ledger;
 use std::thread::Threads;
 use stored_cost::StoredCost;
 use waiting_item::Item;
-use work_claim::Workers;
+use work_claim::{Gate, Workers};
 
 /// What waits: some of it may be stale, barred or there more than once. Most of it stands in one ascending list, and each call goes
 /// through it once, in as many ranges as workers share it.

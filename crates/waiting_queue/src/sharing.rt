@@ -5,7 +5,7 @@ ghost use Rattle.std.specs.Bool.{nat_le};
 /// takes longer than it saves.
 const LEAST_SHARED: usize = 1600;
 
-/// How many labels of whole queries, which [`route_io::Gate::SHARED_FROM`] counts, are as much work as so many spots of one round
+/// How many labels of whole queries, which [`work_claim::Gate::SHARED_FROM`] counts, are as much work as so many spots of one round
 /// under 3 or 4 criteria: half as many, but none where sharing the round wouldn't pay.
 pub fn labels_of_spots(spots: usize) -> usize
     ensures { result ≡ (if nat_le 1600 spots then spots / 2 else 0) }

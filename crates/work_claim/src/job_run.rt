@@ -6,8 +6,8 @@ ghost use Rattle.work_claim.specs.Results.{AreDone, HaveEnded};
 
 use crate::counter::{Counter, WorkerSeat};
 use crate::done::{Done, DoneList, append};
+use crate::gate::{Gate, Phase};
 use crate::{Job, Workers};
-use route_io::{Gate, Phase};
 use std::alloc::Global;
 use std::thread::{Threads, join};
 

@@ -3,10 +3,10 @@ ghost use Rattle.work_claim.specs.Results.{GivesAll};
 
 use crate::counter::Counter;
 use crate::done::in_order;
+use crate::gate::{Gate, Phase};
 use crate::job_run::JobRun;
 use crate::{Job, Workers};
 use out_of_memory::OutOfMemory;
-use route_io::{Gate, Phase};
 use std::alloc::Global;
 use std::thread::Threads;
 

@@ -2,7 +2,7 @@ ghost use Rattle.std.specs.Prelude.{◌≡◌, ◌≤◌, ◌/◌, true, false, 
 ghost use Rattle.std.specs.Bool.{nat_le};
 
 use crate::Helpers;
-use route_io::Gate;
+use crate::gate::Gate;
 use std::marker::Model;
 
 /// Who does the pieces of a job: so many workers, on the threads of this runtime, and the gate that they pass before each

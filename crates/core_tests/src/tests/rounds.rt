@@ -12,7 +12,6 @@ use cost_vector::NodeNo;
 use out_of_memory::OutOfMemory;
 use road_network::{MAX_BUDGET, Query};
 use round_work::relax;
-use route_io::OpenGate;
 use settled_front::StairFront;
 use std::alloc::Global;
 use std::marker::Brand;
@@ -23,7 +22,7 @@ use std::thread::Threads;
 use stored_cost::{NarrowCost, StoredCost};
 use waiting_item::Item;
 use waiting_queue::Steps;
-use work_claim::Workers;
+use work_claim::{OpenGate, Workers};
 
 /// A search by two criteria whose costs have 32 bits a component.
 type Search = Core<2, StairFront<NarrowCost<2>>>;

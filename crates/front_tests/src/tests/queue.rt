@@ -5,7 +5,6 @@ ghost use Rattle.waiting_item.specs.Waiting.{AreCriteria};
 use crate::tests::drawing::{cost_of, draw_cost};
 use cost_vector::NodeNo;
 use out_of_memory::OutOfMemory;
-use route_io::{Gate, Phase};
 use std::alloc::Global;
 use std::marker::Brand;
 use std::process::Abort;
@@ -14,7 +13,7 @@ use std::thread::Threads;
 use stored_cost::{NarrowCost, StoredCost, WideCost};
 use waiting_item::Item;
 use waiting_queue::{Look, Queue, Steps};
-use work_claim::Workers;
+use work_claim::{Gate, Phase, Workers};
 
 /// A gate that does nothing, and has all work shared.
 struct Sharing;

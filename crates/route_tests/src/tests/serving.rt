@@ -6,13 +6,14 @@ use super::rows::{A, B};
 use super::{ample, folder_of, words_of};
 use link_doors::{MemoryDoor, MemoryTown};
 use route_io::memory::{MemorySink, MemorySource};
-use route_io::{Link, MemoryLink, OpenGate};
+use route_io::{Link, MemoryLink};
 use route_top::route;
 use std::alloc::{AllocError, Global};
 use std::process::Abort;
 use std::sync::Wait;
 use std::thread::Threads;
 use std::time::Clock;
+use work_claim::OpenGate;
 
 /// What fails at a call.
 #[derive(Clone, Copy, PartialEq, Eq)]

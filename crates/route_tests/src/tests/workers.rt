@@ -4,13 +4,13 @@ use super::{
     FIRST as WANTED, Outside, Row, Wanted, assert_ended, assert_run, bounded, generated,
     outside_of, walks,
 };
-use route_io::{Gate, Phase};
 use std::alloc::{AllocError, Global};
 use std::process::Abort;
 use std::sync::Wait;
 use std::sync::atomic::{AtomicBool, AtomicU32, Ordering};
 use std::thread::Threads;
 use std::time::Clock;
+use work_claim::{Gate, Phase};
 
 /// The words of a row, and so many workers.
 fn words_with(alloc: Global, words: &str, workers: u32) -> Result<String, AllocError> {

@@ -1,5 +1,5 @@
-use route_io::{Gate, Phase};
 use std::sync::atomic::{AtomicU64, Ordering};
+use work_claim::{Gate, Phase};
 
 /// Counts the pieces that pass, and adds up their numbers.
 #[derive(Drop)]

@@ -1,11 +1,10 @@
 ghost use Rattle.std.specs.Prelude.{◌≡◌};
 
 use out_of_memory::OutOfMemory;
-use route_io::{Gate, Phase};
 use std::alloc::Global;
 use std::sync::atomic::{AtomicBool, Ordering};
 use std::thread::Threads;
-use work_claim::{Job, Workers, run_pieces};
+use work_claim::{Gate, Job, Phase, Workers, run_pieces};
 
 /// The number of each piece.
 #[derive(Drop)]

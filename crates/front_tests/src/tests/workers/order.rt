@@ -2,11 +2,10 @@ ghost use Rattle.std.specs.Prelude.{◌≡◌, ◌*◌, ◌^◌, ◌<◌, ◌≤
 
 use super::counting::Counting;
 use out_of_memory::OutOfMemory;
-use route_io::Phase;
 use std::alloc::Global;
 use std::process::Abort;
 use std::thread::Threads;
-use work_claim::{Job, Workers, run_pieces};
+use work_claim::{Job, Phase, Workers, run_pieces};
 
 /// The square of each piece's number.
 #[derive(Drop)]

@@ -2,13 +2,12 @@ use super::networks::{Drawn, DrawnArc, graph, query_of};
 use super::searches::{Search, refuses_at, reply, reply_within};
 use arc_graph::Network;
 use road_network::SearchFault;
-use route_io::{Gate, Phase};
 use std::alloc::{AllocError, Global};
 use std::process::Abort;
 use std::sync::atomic::{AtomicU64, Ordering};
 use std::test::Fail;
 use std::thread::Threads;
-use work_claim::Workers;
+use work_claim::{Gate, Phase, Workers};
 
 /// A graph, a query, its reply with walks, how many relevant and goal-relevant pairs it has, and how many pieces its rounds relax and
 /// merge, worked out by hand.

@@ -7,13 +7,12 @@ use answer_writer::put_answer;
 use arc_graph::Network;
 use road_network::{AnswerKind, Query, SearchFault};
 use route_io::sure::SureSink;
-use route_io::{Gate, Phase};
 use std::alloc::Global;
 use std::process::Abort;
 use std::test::Fail;
 use std::thread::Threads;
 use walk_readback::{FoundCosts, Room};
-use work_claim::Workers;
+use work_claim::{Gate, Phase, Workers};
 
 /// Has all work shared, however little.
 #[derive(Drop)]

@@ -3,7 +3,7 @@ use super::replay::Replay;
 use super::replies::{Epoch, network, put_reply, sent};
 use road_network::MAX_BUDGET;
 use route_io::memory::{MemorySink, MemorySource};
-use route_io::{Failed, Link, OpenGate, Source};
+use route_io::{Failed, Link, Source};
 use route_lanes::{LaneReport, run_lanes};
 use session_core::{LinkPolicy, ServeContext, SessionEnd};
 use std::alloc::{AllocError, Global};
@@ -13,7 +13,7 @@ use std::sync::Wait;
 use std::test::Fail;
 use std::thread::{Threads, yield_now};
 use std::time::Clock;
-use work_claim::Workers;
+use work_claim::{OpenGate, Workers};
 
 /// How many histories are drawn.
 const HISTORIES: u64 = 100;

@@ -1,8 +1,8 @@
 use super::doors::TurnDoor;
 use super::turns::{TurnSink, TurnSource};
 use crate::tests::stores::six_arcs;
+use route_io::Link;
 use route_io::memory::{MemorySink, MemorySource};
-use route_io::{Link, OpenGate};
 use route_lanes::{Served, run_lanes, serve_lanes};
 use session_core::{LinkPolicy, ServeContext, SessionEnd};
 use std::alloc::{AllocError, Global};
@@ -12,7 +12,7 @@ use std::sync::atomic::{AtomicBool, Ordering};
 use std::test::Fail;
 use std::thread::Threads;
 use std::time::Clock;
-use work_claim::Workers;
+use work_claim::{OpenGate, Workers};
 
 type TurnLink<'t> = Link<TurnSource<'t>, TurnSink<'t>>;
 

@@ -7,7 +7,6 @@ use crate::tests::stores::six_arcs;
 use arc_graph::Weights;
 use link_doors::{HostDoor, HostTown, Town};
 use out_of_memory::OutOfMemory;
-use route_io::{Gate, OpenGate};
 use route_lanes::{Served, serve_lanes};
 use session_core::{LinkPolicy, ServeContext};
 use std::alloc::Global;
@@ -19,7 +18,7 @@ use std::test::Fail;
 use std::thread::Threads;
 use std::time::{Clock, Duration};
 use std::{io, thread};
-use work_claim::Workers;
+use work_claim::{Gate, OpenGate, Workers};
 
 /// The addresses of an operator and of sessions.
 type Addresses = (&'static str, &'static str);

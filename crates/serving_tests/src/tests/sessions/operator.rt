@@ -6,14 +6,14 @@ use crate::tests::stores::six_arcs;
 use arc_graph::{Change, Weights};
 use cost_vector::Weight;
 use epoch_store::{ChangeSet, Chronicle, Operator, Store, make};
-use route_io::{MemoryLink, OpenGate};
+use route_io::MemoryLink;
 use session_core::{LinkPolicy, ServeContext, SessionEnd, serve_operator};
 use std::alloc::{AllocError, Global};
 use std::marker::Brand;
 use std::process::Abort;
 use std::sync::Wait;
 use std::test::Fail;
-use work_claim::Workers;
+use work_claim::{OpenGate, Workers};
 
 /// A change by the number of the epoch that it came with and that of its arc; `None` shuts the arc.
 type Published = (u32, u32, Option<(u32, u32)>);

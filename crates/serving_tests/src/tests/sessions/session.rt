@@ -7,7 +7,7 @@ use arc_graph::{Graph, Weights};
 use epoch_store::{Chronicle, EpochReader, Operator, Store, make};
 use road_network::MAX_BUDGET;
 use route_io::memory::{MemorySink, MemorySource};
-use route_io::{Failed, Link, MemoryLink, OpenGate, Sink, Source};
+use route_io::{Failed, Link, MemoryLink, Sink, Source};
 use session_core::{LinkPolicy, ServeContext, Session, SessionEnd};
 use std::alloc::Global;
 use std::marker::Brand;
@@ -16,7 +16,7 @@ use std::sync::Wait;
 use std::test::Fail;
 use std::thread::Threads;
 use std::time::Clock;
-use work_claim::Workers;
+use work_claim::{OpenGate, Workers};
 
 /// What becomes of the store before the link is served.
 #[derive(Clone, Copy, PartialEq)]

@@ -5,6 +5,7 @@ ports of this machine, and another user at a socket file.
 from __future__ import annotations
 
 import os
+import socket
 import socketserver
 import subprocess
 import sys
@@ -157,6 +158,30 @@ def test_a_page_publishes_nothing(driver, served, six_arcs):
             assert operator.publish() == 1
             assert session.wait(1) == 1
             assert session.query(1, 4).routes == before.routes
+
+
+# What a browser sends by TLS to go on with a session: among its bytes is the session's number,
+# which whoever had the name before gave it.
+HELLO = b"\x16\x03\x01\x00\x4d\x01\x00\x00\x49\x03\x03%b\x20%b\x00\x02\xc0\x2f\x01\x00" % (
+    b"." * 32,
+    (b"\n" + LINES).ljust(32, b"."),
+)
+
+
+@pytest.mark.xfail(
+    strict=True,
+    raises=AssertionError,
+    reason="by TLS no line of HTTP is sent, as docs/SERVING.md says",
+)
+def test_lines_in_a_session_of_tls(served, six_arcs):
+    with served(six_arcs) as server:
+        with socket.create_connection((server.host, server.operator_port)) as link:
+            link.sendall(HELLO)
+            link.shutdown(socket.SHUT_WR)
+            while link.recv(1000):
+                pass
+        with Session(server.host, server.port) as session:
+            assert session.epoch() == 0
 
 
 ASK = """import socket, sys

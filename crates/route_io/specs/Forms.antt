@@ -25,7 +25,7 @@ pub record MemorySink : Type 0 where
 
 -- what it shows as a sink
 abbrev pub memory_sink_state : MemorySink → SinkState
-memory_sink_state sink = record { sent = Some sink.sent; faults = sink.calls.faults; wants = sink.wants }
+memory_sink_state sink = record { sent = Some sink.sent; offered = None; faults = sink.calls.faults; wants = sink.wants }
 
 -- the most bytes that its next write takes
 abbrev pub room : MemorySink → ℕ
@@ -61,7 +61,7 @@ pub record SureSink : Type 0 where
 
 -- what it shows as a sink
 abbrev pub sure_sink_state : SureSink → SinkState
-sure_sink_state sink = record { sent = Some sink.sent; faults = 0; wants = sink.wants }
+sure_sink_state sink = record { sent = Some sink.sent; offered = None; faults = 0; wants = sink.wants }
 
 -- a folder that fails at a missing name alone: its files, what is left, and how often a name was missing
 pub record SureFolder : Type 0 where
@@ -98,4 +98,4 @@ host_folder_state folder = reader_state folder.left folder.faults
 
 -- what a writer shows as a sink: the bytes that it holds, where it tells them, and the number of its faults
 abbrev pub writer_state : Option (List ℕ) → ℕ → SinkState
-writer_state contents faults = record { sent = contents; faults = faults; wants = 0 }
+writer_state contents faults = record { sent = contents; offered = None; faults = faults; wants = 0 }

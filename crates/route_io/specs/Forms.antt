@@ -25,7 +25,7 @@ pub record MemorySink : Type 0 where
 
 -- what it shows as a sink
 abbrev pub memory_sink_state : MemorySink → SinkState
-memory_sink_state sink = record { sent = Some sink.sent; faults = sink.calls.faults; wants = sink.wants }
+memory_sink_state sink = record { sent = Some sink.sent; offered = None; faults = sink.calls.faults; wants = sink.wants }
 
 -- the most bytes that its next write takes
 abbrev pub room : MemorySink → ℕ
@@ -64,7 +64,7 @@ pub record SureSink : Type 0 where
 
 -- what it shows as a sink
 abbrev pub sure_sink_state : SureSink → SinkState
-sure_sink_state sink = record { sent = Some sink.sent; faults = 0; wants = sink.wants }
+sure_sink_state sink = record { sent = Some sink.sent; offered = None; faults = 0; wants = sink.wants }
 
 -- a folder that fails at a missing name alone: its files, the name selected last and what is left of that file, and how
 -- often a name was missing
@@ -111,4 +111,4 @@ host_folder_state folder = record {
 
 -- what a writer shows as a sink: the bytes that it holds, where it tells them, and the number of its faults
 abbrev pub writer_state : Option (List ℕ) → ℕ → SinkState
-writer_state contents faults = record { sent = contents; faults = faults; wants = 0 }
+writer_state contents faults = record { sent = contents; offered = None; faults = faults; wants = 0 }

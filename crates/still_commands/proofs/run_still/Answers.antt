@@ -1,8 +1,9 @@
-use Rattle.std.proofs.Common.{◌∙◌, sym}
+use Rattle.std.proofs.Common.{◌∙◌, subst, sym}
+use Rattle.route_io.specs.Causes.{IsCounted}
 use Rattle.command_words.specs.Words.{texts_of}
 use Rattle.still_commands.specs.Output.{AsksStill, StillEnds}
 use Rattle.still_commands.specs.Stops.{run_outcome}
-use Rattle.still_commands.proofs.OutputLemmas.{ends_of_none, never_bad, none_of_two}
+use Rattle.still_commands.proofs.OutputLemmas.{ends_of_none, fails_at_three, never_bad, none_of_two}
 use Rattle.still_commands.proofs.run_still.Goals as goal
 
 pub returns-clause-output : goal.returns-clause-output
@@ -14,3 +15,7 @@ returns-clause-bad_words g c = λ two. none_of_two StillEnds (AsksStill (texts_o
 
 pub returns-clause-only_bad_words : goal.returns-clause-only_bad_words
 returns-clause-only_bad_words g c = λ none. rw c.end.ensures.status (ends_of_none StillEnds _ _ none c.run.ensures.ends)
+
+pub returns-clause-folder : goal.returns-clause-folder
+returns-clause-folder g c =
+    rw c.end.ensures.status (subst (λ failed. IsCounted failed _ _) (fails_at_three (run_outcome c.run.result)) c.run.ensures.reads.cause)

@@ -150,7 +150,7 @@ module _ (limits : LineLimits) (start : SourceState) where
     goes_on = refl;
     number = refl;
     in_limits = record { number = omega arith; passed = omega arith; text = omega arith; one_past = omega arith; in_the_buffer = omega arith };
-    source = record { cause = refl; files = refl };
+    source = record { cause = refl; files = refl; selected = refl };
     loses_none = none_lost start.left;
     text = all_left start.left;
   } where

@@ -1,8 +1,7 @@
-use Rattle.std.proofs.Common.{◌∙◌, subst, sym}
-use Rattle.route_io.specs.Causes.{IsCounted}
+use Rattle.std.proofs.Common.{◌∙◌, sym}
 use Rattle.command_words.specs.Words.{Asks, texts_of}
 use Rattle.still_commands.specs.Stops.{run_outcome}
-use Rattle.still_commands.proofs.OutputLemmas.{ends_of_none, fails_at_three, none_of_two}
+use Rattle.still_commands.proofs.OutputLemmas.{counts_at_three, ends_of_none, none_of_two}
 use Rattle.route_top.specs.Ends.{Ends}
 use Rattle.route_top.proofs.OutputLemmas.{never_bad_words}
 use Rattle.route_top.proofs.ServeLemmas.{town_ends}
@@ -22,5 +21,4 @@ pub returns-clause-town : goal.returns-clause-town
 returns-clause-town g c = town_ends (Asks (texts_of c.args.words.now)) _ _ _ _ _ _ c.run.ensures.town c.end.ensures.status
 
 pub returns-clause-folder : goal.returns-clause-folder
-returns-clause-folder g c =
-    rw c.end.ensures.status (subst (λ failed. IsCounted failed _ _) (fails_at_three (run_outcome c.run.result)) c.run.ensures.runs.reads.cause)
+returns-clause-folder g c = counts_at_three (run_outcome c.run.result) _ c.end.ensures.status c.run.ensures.runs.reads

@@ -225,7 +225,8 @@ def test_close_reload_and_undo(english, address):
     english.picture("town_preview")
     english.press("#close")
     english.wait(lambda: "Old Bridge is closed." in english.text("status"))
-    assert english.costs() != before and "Old Bridge" not in english.text("rows")
+    english.wait(lambda: english.costs() != before)
+    english.wait(lambda: "Old Bridge" not in english.text("rows"))
     english.open(address)  # what is closed is there after a reload
     item = english.text("closures")
     assert "Old Bridge" in item and "flood · Ann" in item and "1 closure" in english.text("stand")
@@ -234,7 +235,8 @@ def test_close_reload_and_undo(english, address):
     english.picture("town_closed")
     english.press("#closures button:last-child")
     english.wait(lambda: "is undone" in english.text("status"))
-    assert english.costs() == before and "Nothing is closed" in english.text("closures")
+    english.wait(lambda: english.costs() == before)
+    english.wait(lambda: "Nothing is closed" in english.text("closures"))
 
 
 def test_stretch_between_two_clicks(english, address):
@@ -256,11 +258,11 @@ def test_another_operator(english, address, town, town_server, tool):
     before, operator = english.costs(), f"127.0.0.1:{town_server.operator_port}"
     tool("ops.py", town.folder, "shut", "--road", "Toll Bridge", "--send", operator)
     english.wait(lambda: "have changed" in english.text("status"), 20)
-    assert english.costs() != before
+    english.wait(lambda: english.costs() != before)
     english.wait(lambda: "Toll Bridge" in english.text("closures"), 20)
     english.press("#closures button:last-child")
     english.wait(lambda: "is undone" in english.text("status"))
-    assert english.costs() == before
+    english.wait(lambda: english.costs() == before)
     with Operator("127.0.0.1", town_server.operator_port) as other:
         other.shut(1)
         other.publish()

@@ -1,12 +1,12 @@
 -- What is found at a place, and the walk that is read back there, are the route that the answer has there.
-use Rattle.std.proofs.Common.{◌≡◌, ℕ, zero, suc, ◌+◌, ◌-◌, ◌<◌, ◌≤◌, List, [], ◌∷◌, ◌++◌, take, drop, get_or, arith, Option, Some, Err, length, map, refl, sym, ap, ap₂, subst, ◌∙◌}
+use Rattle.std.proofs.Common.{◌≡◌, ℕ, zero, suc, ◌+◌, ◌-◌, ◌<◌, ◌≤◌, List, [], ◌∷◌, ◌++◌, take, drop, get_or, arith, Option, Some, length, map, refl, sym, ap, ap₂, subst, ◌∙◌}
 use Rattle.std.specs.Prelude.{IfSome, slice_get}
 use Rattle.std.specs.List.{between, flat_map}
 use Rattle.std.proofs.lemmas.List.{drop-map, length-map, take-map, take_all}
 use Rattle.std.proofs.lemmas.Slice.{between_from_start}
 use Rattle.std.proofs.lemmas.Option.{get_or_from_slice_get}
 use Rattle.route_io.specs.declared.fault.WriteFault.{WriteFault}
-use Rattle.route_io.specs.Sinks.{SinkState, Sends}
+use Rattle.route_io.specs.Sinks.{SinkState}
 use Rattle.cost_vector.specs.declared.label.ArcNo.{ArcNo}
 use Rattle.road_network.specs.Network.{Network}
 use Rattle.road_network.specs.Best.{IsBackwardLeast}
@@ -19,7 +19,7 @@ use Rattle.road_network.specs.declared.query.AnswerKind.{AnswerKind}
 use Rattle.road_network.specs.declared.query.Query.{Query}
 use Rattle.answer_writer.specs.Replies.{and_arc, and_number, cost_line, first_line, line_of, lines_between, reply_of, walk_line}
 use Rattle.answer_writer.specs.Routes.{AreRoutes, TellsRoutes}
-use Rattle.answer_writer.specs.Pages.{Holds}
+use Rattle.answer_writer.specs.Pages.{Cuts, Holds}
 use Rattle.answer_writer.specs.Pieces.{walk_text}
 use Rattle.answer_writer.proofs.GathersLemmas.{HoldsFirst, more_of_part, part_cut, part_held}
 
@@ -101,11 +101,11 @@ module _ (net : Network) (f : FoundCosts) (found : IsFound f) (routes : List Rou
           more_of_part walk_line routes from to i within route route begun more next old mid new before held first after
           (subst (λ t. Holds mid new (held ++ t) after) text line)
 
-      pub route_cut : (fault : WriteFault) → Sends {T = Unit {0}} mid new (held ++ walk_text c read) (Err fault)
-          → Sends {T = Unit {0}} old new (before ++ flat_map walk_line (between from to routes)) (Err fault)
+      pub route_cut : (fault : WriteFault) → Cuts mid new (held ++ walk_text c read) fault
+          → Cuts old new (before ++ flat_map walk_line (between from to routes)) fault
       route_cut fault line =
           part_cut walk_line routes from to i within route route begun more next old mid new before held first fault
-          (subst (λ t. Sends {T = Unit {0}} mid new (held ++ t) (Err fault)) text line)
+          (subst (λ t. Cuts mid new (held ++ t) fault) text line)
 
   module _ (kind : AnswerKind) (epoch : ℕ) (query : Query) (count : ℕ) (counted : count ≡ length f.costs) where
     -- the first line and the lines at all places are the whole reply

@@ -7,7 +7,7 @@ ghost use Rattle.road_network.specs.Queries.{limit_of};
 ghost use Rattle.route_io.specs.Sinks.{Sends};
 ghost use Rattle.answer_writer.specs.Replies.{cost_line, first_line, lines_between, reply_of, walk_line};
 ghost use Rattle.answer_writer.specs.Routes.{AreRoutes, TellsRoutes};
-ghost use Rattle.answer_writer.specs.Pages.{Gathers};
+ghost use Rattle.answer_writer.specs.Pages.{Gathers, IsOneWrite};
 ghost use Rattle.answer_writer.specs.Pieces.{walk_text};
 
 use crate::page::Page;
@@ -21,7 +21,8 @@ use walk_readback::{FoundCosts, Room, walk};
 
 /// Sends the reply of an answer at an epoch, or a part of it from the front and answers the sink's fault.
 ///
-/// The room has to hold the longest walk; so nothing but a fault of the sink cuts a reply.
+/// The room has to hold the longest walk; so nothing but a fault of the sink cuts a reply. A reply of at most 4,096 bytes is one
+/// write.
 pub fn put_answer<K: Sink, F: FoundCosts>(
     sink: &mut K,
     epoch: u32,
@@ -35,10 +36,13 @@ pub fn put_answer<K: Sink, F: FoundCosts>(
     requires well_found { IsWellFound network.now (limit_of network.now.criteria query.now)
         (F.state found.now) }
     requires room { longest_in (F.state found.now) ≤ room.old.holds }
-    ensures { (routes : List Route) → IsAnswer network.now query.now.from query.now.to
+    ensures sent { (routes : List Route) → IsAnswer network.now query.now.from query.now.to
         (limit_of network.now.criteria query.now) routes
         → Sends (K.state sink.old) (K.state sink.new) (reply_of kind epoch query.now routes)
         result }
+    ensures one_write { (routes : List Route) → IsAnswer network.now query.now.from query.now.to
+        (limit_of network.now.criteria query.now) routes
+        → IsOneWrite (K.state sink.old) (K.state sink.new) (reply_of kind epoch query.now routes) }
 {
     let count = found.count();
     let mut page = Page::new();
@@ -54,8 +58,10 @@ pub fn put_first_line<K: Sink>(
     query: &Query,
     count: usize,
 ) -> Result<(), WriteFault>
-    ensures { Sends (K.state sink.old) (K.state sink.new) (first_line epoch query.now count)
+    ensures sent { Sends (K.state sink.old) (K.state sink.new) (first_line epoch query.now count)
         result }
+    ensures one_write { IsOneWrite (K.state sink.old) (K.state sink.new)
+        (first_line epoch query.now count) }
 {
     let mut page = Page::new();
     page.put_first_line(sink, epoch, query, count)?;
@@ -80,6 +86,9 @@ pub fn put_routes<K: Sink, F: FoundCosts>(
     ensures lines { (routes : List Route) → AreRoutes network.now (F.state found.now) routes
         → Sends (K.state sink.old) (K.state sink.new)
         (lines_between kind routes places.start places.end) result }
+    ensures one_write { (routes : List Route) → AreRoutes network.now (F.state found.now) routes
+        → IsOneWrite (K.state sink.old) (K.state sink.new)
+        (lines_between kind routes places.start places.end) }
     ensures room { room.old.holds ≤ room.new.holds }
 {
     let mut page = Page::new();

@@ -1,6 +1,6 @@
 //! A page, on which a text is gathered before it is sent.
 ghost use Rattle.std.specs.Prelude.{◌≡◌, ◌≤◌, [], length};
-ghost use Rattle.route_io.specs.Sinks.{Sends};
+ghost use Rattle.route_io.specs.Sinks.{OffersWhole, Sends};
 ghost use Rattle.answer_writer.specs.Pages.{Gathers};
 
 use arrayvec::ArrayString;
@@ -34,7 +34,8 @@ impl Page {
         }
     }
 
-    /// Puts a text behind what the page holds, which is sent where both don't fit, and so is a text longer than a page.
+    /// Puts a text behind what the page holds, which is sent where both don't fit, and so is a text longer than a page. Where
+    /// both fit, the sink isn't called.
     pub fn put<K: Sink>(&mut self, sink: &mut K, text: &str) -> Result<(), WriteFault>
         ensures { Gathers (K.state sink.old) (K.state sink.new) self.old self.new text.now result }
     {
@@ -52,6 +53,7 @@ impl Page {
     pub fn send<K: Sink>(&mut self, sink: &mut K) -> Result<(), WriteFault>
         ensures empty { self.new ≡ [] }
         ensures sent { Sends (K.state sink.old) (K.state sink.new) self.old result }
+        ensures whole { OffersWhole (K.state sink.old) (K.state sink.new) self.old }
     {
         let sent = put_all(sink, self.text.as_bytes());
         self.text.clear();

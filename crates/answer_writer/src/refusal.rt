@@ -1,5 +1,6 @@
 //! The text of a refusal.
 ghost use Rattle.route_io.specs.Sinks.{Sends};
+ghost use Rattle.answer_writer.specs.Pages.{IsOneWrite};
 ghost use Rattle.answer_writer.specs.Replies.{refusal};
 
 use crate::line::put_line;
@@ -8,7 +9,7 @@ use route_io::{Sink, WriteFault};
 
 /// Sends the reply that refuses a query at an epoch, or a part of it from the front and answers the sink's fault.
 ///
-/// The ends are as the query has them, nodes or not; `why` begins with a space.
+/// The ends are as the query has them, nodes or not; `why` begins with a space. A reply of at most 4,096 bytes is one write.
 pub fn put_refusal<K: Sink>(
     sink: &mut K,
     epoch: u32,
@@ -16,8 +17,10 @@ pub fn put_refusal<K: Sink>(
     target: u32,
     why: &str,
 ) -> Result<(), WriteFault>
-    ensures { Sends (K.state sink.old) (K.state sink.new)
+    ensures sent { Sends (K.state sink.old) (K.state sink.new)
         (refusal epoch start target why.now) result }
+    ensures one_write { IsOneWrite (K.state sink.old) (K.state sink.new)
+        (refusal epoch start target why.now) }
 {
     use Piece::{Number, Text};
     put_line(

@@ -1,7 +1,7 @@
 ghost use Rattle.std.specs.Prelude.{◌≡◌, ◌≢◌, ℕ, ◌+◌, ◌^◌, ◌<◌, ◌≤◌, ◌↔◌, [], length, IfOk, IfSome, IfNone, OnOk, IsTrue};
 ghost use Rattle.road_network.specs.Network.{IsNode};
 ghost use Rattle.arc_graph.specs.Graph.{head_of};
-ghost use Rattle.goal_bounds.specs.Reverse.{GoesBack, IsFinal, IsLeastOf, IsReverse, NoneLeads, weight_of};
+ghost use Rattle.goal_bounds.specs.Reverse.{GoesBack, IsFinal, IsLeastOf, IsReverse, NoneLeads, value_at, weight_of};
 
 use arc_graph::Network;
 use cost_vector::{ArcNo, NodeNo};
@@ -128,9 +128,10 @@ impl ReverseSearch {
         self.expand(network, least.node, least.value)
     }
 
-    /// Goes back along all arcs into a node, for which this value is known.
+    /// Goes back along all arcs into a node, for which this value is known: it isn't stale.
     fn expand(&mut self, network: &Network<'_>, node: NodeNo, value: u64) -> Result<(), OutOfMemory>
         requires node { IsNode network.now.nodes node.0 }
+        requires known { value ≡ value_at self.old node.0 }
         requires room { value < 2 ^ 55 }
         requires count { length self.old.values ≡ network.now.nodes + 1 }
         requires criterion { self.old.criterion < network.now.criteria }

@@ -1,51 +1,52 @@
 -- Each text is one file, or it has one first fault.
-use Rattle.std.proofs.Common.{◌≡◌, ℕ, List, Option, Some, None, Result, Ok, Err, ◌⊎◌, inl, inr, refl, sym, ap, subst, ◌∙◌}
-use Rattle.std.proofs.lemmas.Option.{same_Some}
+use Rattle.std.proofs.Common.{◌≡◌, ℕ, ◌-◌, ◌<◌, List, [], ◌∷◌, Option, Some, None, Result, Ok, Err, ⊎_elim, map, refl, sym, ap, ◌∙◌, arith}
+use Rattle.std.proofs.lemmas.Bool.{cases_lt}
 use Rattle.gr_reader.specs.declared.fault.FileFault.{FileFault}
 use Rattle.gr_reader.specs.declared.fault.FileFault.TheVariants.{Line, Read, OutOfMemory}
 use Rattle.line_text.specs.declared.limits.LineLimits.{LineLimits}
 use Rattle.gr_reader.specs.declared.fault.LineKind.{LineKind}
-use Rattle.gr_reader.specs.Rules.{Rules}
-use Rattle.gr_reader.specs.Rest.{Fault, Known, read_rest, at_start}
-use Rattle.gr_reader.specs.Files.{IsFile, FirstFault}
+use Rattle.gr_reader.specs.Rules.{LineForm, Rules}
+use Rattle.gr_reader.specs.Rules.LineForm.{Problem, Record}
+use Rattle.gr_reader.specs.Files.{IsFile, kind_at}
 use Rattle.gr_reader.specs.Reader.{IsSound, IsComplete}
-use Rattle.gr_reader.specs.Laws.{FilesAreRead, FirstFaultsAreMet, IsDecided, TextsAreDecided}
-use Rattle.gr_reader.proofs.IsFileLemmas.{reading_is, file_is_read}
-use Rattle.gr_reader.proofs.FirstFaultLemmas.{fault_is_first, first_is_fault}
+use Rattle.gr_reader.specs.Laws.{IsDecided, TextsAreDecided}
+use Rattle.gr_reader.proofs.FileLemmas.{file_right, head_is, is_one}
+
+-- there is one first place with a kind
+one_first : (kind_of : ℕ → Option LineKind) (p q : ℕ) (kind other : LineKind) → kind_of p ≡ Some kind → ((i : ℕ) → i < p → kind_of i ≡ None)
+    → kind_of q ≡ Some other → ((i : ℕ) → i < q → kind_of i ≡ None) → (p ≡ q) × (kind ≡ other)
+one_first kind_of p q kind other here before there first =
+    ⊎_elim (λ lt. let none = first p lt in absurd cc)
+    (λ ge. ⊎_elim (λ lt. let none = before q lt in absurd cc) (λ le. let same : p ≡ q = omega arith in let one = ap kind_of same in (same, cc)) (cases_lt q p))
+    (cases_lt p q)
+
+same_mapped : {X Y : Type 0} (f : X → Y) → ((x y : X) → f x ≡ f y → x ≡ y) → (xs ys : List X) → map f xs ≡ map f ys → xs ≡ ys
+same_mapped f one [] [] e = refl
+same_mapped f one [] (y ∷ ys) e = absurd cc
+same_mapped f one (x ∷ xs) [] e = absurd cc
+same_mapped f one (x ∷ xs) (y ∷ ys) e =
+    let heads = head_is (f x) (f y) (map f xs) (map f ys) e in
+    let first = one x y heads.0 in
+    let rest = same_mapped f one xs ys heads.1 in
+    cc
 
 module _ {P R : Type 0} (rules : Rules P R) where
-  -- what is told of a whole file
-  abbrev whole : P → List R → Known P R
-  whole problem records = record { problem = Some problem; records = records; end = None }
-
   module _ (limits : LineLimits) (bytes : List ℕ) where
-    -- a text that is read to its end is this file
-    pub read_is_file : (problem : P) (records : List R) → read_rest rules limits at_start bytes ≡ whole problem records
-        → IsFile rules limits bytes problem records
-    read_is_file problem records e =
-        let found = reading_is rules limits bytes (ap (λ known. known.end) e) in
-        let problem_is = same_Some _ _ (sym found.1 ∙ ap (λ known. known.problem) e) in
-        subst (λ p. IsFile rules limits bytes p records) problem_is (subst (IsFile rules limits bytes found.0) (ap (λ known. known.records) e) found.2)
-
-    by_end : (end : Option Fault) → (read_rest rules limits at_start bytes).end ≡ end
-        → ((problem : P) × (records : List R) × IsFile rules limits bytes problem records)
-        ⊎ ((kind : LineKind) × (line : ℕ) × FirstFault rules limits bytes kind line)
-    by_end None e = let found = reading_is rules limits bytes e in inl (found.0, (read_rest rules limits at_start bytes).records, found.2)
-    by_end (Some fault) e = inr (fault.kind, fault.line, fault_is_first rules limits bytes fault.kind fault.line e)
-
     -- each text has one answer
     pub is_decided : IsDecided rules limits bytes
     is_decided = record {
-      answer = by_end (read_rest rules limits at_start bytes).end refl;
+      answer = is_one rules limits bytes;
       one_file = λ problem other records others file second.
-          let e = sym (file_is_read rules limits bytes problem records file) ∙ file_is_read rules limits bytes other others second in
-          (same_Some _ _ (ap (λ known. known.problem) e), ap (λ known. known.records) e);
+          let heads = head_is (Problem problem) (Problem other) (map Record records) (map Record others) (sym file.lines ∙ second.lines) in
+          let same : problem ≡ other = let first = heads.0 in cc in
+          let record_is : R → LineForm P R = Record in
+          (same, same_mapped record_is (λ r other e. cc) records others heads.1);
       one_fault = λ kind other line other_line first second.
-          let e = sym (first_is_fault rules limits bytes kind line first) ∙ first_is_fault rules limits bytes other other_line second in
-          (ap (λ (fault : Fault). fault.kind) (same_Some _ _ e), ap (λ (fault : Fault). fault.line) (same_Some _ _ e));
+          let one = one_first (kind_at rules limits bytes) (line - 1) (other_line - 1) kind other first.faulty first.first second.faulty second.first in
+          (one.1, omega (arith, one.0, first.counted, second.counted));
       never_both = λ problem records kind line file first.
-          let none = ap (λ (known : Known P R). known.end) (file_is_read rules limits bytes problem records file) in
-          let some = first_is_fault rules limits bytes kind line first in
+          let none = file_right rules limits bytes problem records file (line - 1) (omega (arith, first.counted, first.within)) in
+          let some = first.faulty in
           absurd cc;
     }
 
@@ -63,14 +64,6 @@ module _ {P R : Type 0} (rules : Rules P R) where
     }
     complete IsOf one file (Err Read) sound = record { accepts = λ value is. tt; refuses = λ kind line first. tt }
     complete IsOf one file (Err (OutOfMemory want)) sound = record { accepts = λ value is. tt; refuses = λ kind line first. tt }
-
-  -- exactly the files are read to their end
-  pub files_are_read : FilesAreRead rules
-  files_are_read limits bytes problem records = (file_is_read rules limits bytes problem records, read_is_file limits bytes problem records)
-
-  -- the first fault is met
-  pub first_faults_are_met : FirstFaultsAreMet rules
-  first_faults_are_met limits bytes kind line = (first_is_fault rules limits bytes kind line, fault_is_first rules limits bytes kind line)
 
   -- each text has one answer
   pub texts_are_decided : TextsAreDecided rules

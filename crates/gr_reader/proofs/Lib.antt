@@ -1,13 +1,7 @@
-pub mod KnownLemmas
+pub mod FileLemmas
 pub mod StepsLemmas
-pub mod LimitLemmas
-pub mod FirstFaultLemmas
-pub mod IsFileLemmas
 pub mod LawsLemmas
-pub mod TakesBytesLemmas
-pub mod HasComeLemmas
 pub mod ReadsIntoLemmas
 pub mod WeightLemmas
-pub mod MayTellLemmas
 pub mod WrittenFileLemmas
 pub mod WrittenWeightLemmas

@@ -3,7 +3,7 @@ use Rattle.std.specs.Prelude.{ℕ}
 use Rattle.line_text.specs.declared.limits.LineFault.{LineFault}
 use Rattle.line_text.specs.declared.limits.LineFault.TheVariants as lines
 use Rattle.gr_reader.specs.declared.fault.FileFault.{FileFault}
-use Rattle.gr_reader.specs.declared.fault.FileFault.TheVariants.{Line, Read, OutOfMemory}
+use Rattle.gr_reader.specs.declared.fault.FileFault.TheVariants.{Line, Read}
 use Rattle.gr_reader.specs.declared.fault.LineKind.{LineKind}
 use Rattle.gr_reader.specs.declared.fault.LineKind.TheVariants.{BadLine, NoProblem, SecondProblem, SizeRange, NodeRange}
 use Rattle.gr_reader.specs.declared.fault.LineKind.TheVariants.{WeightRange, CountWrong, LineTooLong, FileTooLong}

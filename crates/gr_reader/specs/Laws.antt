@@ -1,26 +1,11 @@
--- The laws that join the grammar of a whole text with the reading of what is left of it.
-use Rattle.std.specs.Prelude.{◌≡◌, ℕ, ◌↔◌, ◌⊎◌, List, None, Some}
+-- What holds of every text.
+use Rattle.std.specs.Prelude.{◌≡◌, ℕ, ◌⊎◌, List}
 use Rattle.line_text.specs.declared.limits.LineLimits.{LineLimits}
 use Rattle.gr_reader.specs.declared.fault.LineKind.{LineKind}
 use Rattle.gr_reader.specs.Rules.{Rules}
-use Rattle.gr_reader.specs.Rest.{read_rest, at_start}
 use Rattle.gr_reader.specs.Files.{IsFile, FirstFault}
 
 module _ {P R : Type 0} (rules : Rules P R) where
-  -- A text is a file exactly where its reading ends without a fault, and its records are those that are told.
-  abbrev pub FilesAreRead : Type 0
-  FilesAreRead =
-      (limits : LineLimits) (bytes : List ℕ) (problem : P) (records : List R) →
-      IsFile rules limits bytes problem records
-      ↔ (read_rest rules limits at_start bytes ≡ record { problem = Some problem; records = records; end = None })
-
-  -- The fault that a reading meets is exactly that of the first faulty line.
-  abbrev pub FirstFaultsAreMet : Type 0
-  FirstFaultsAreMet =
-      (limits : LineLimits) (bytes : List ℕ) (kind : LineKind) (line : ℕ) →
-      FirstFault rules limits bytes kind line
-      ↔ ((read_rest rules limits at_start bytes).end ≡ Some (record { kind = kind; line = line }))
-
   -- A text is one file, or it has one first fault, and never both.
   pub record IsDecided (limits : LineLimits) (bytes : List ℕ) : Type 0 where
     pub answer : ((problem : P) × (records : List R) × IsFile rules limits bytes problem records)

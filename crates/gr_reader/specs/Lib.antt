@@ -1,7 +1,6 @@
 pub mod Kinds
 pub mod Rules
 pub mod Table
-pub mod Rest
 pub mod Files
 pub mod Grammar
 pub mod Capped

@@ -1,5 +1,5 @@
 -- Which fault a line has: the first of the table that fits it.
-use Rattle.std.specs.Prelude.{ℕ, ◌+◌, ◌-◌, nat_le, if◌then◌else◌, not, min, Bool, true, false, is_none, is_some, List, []}
+use Rattle.std.specs.Prelude.{ℕ, nat_le, if◌then◌else◌, not, Bool, true, false, is_none, is_some, List, []}
 use Rattle.std.specs.Prelude.{◌∷◌, length, find, Option, Some, None, option_and_then}
 use Rattle.std.specs.Option.{option_or}
 use Rattle.line_text.specs.declared.limits.LineFault.{LineFault}
@@ -7,6 +7,7 @@ use Rattle.line_text.specs.declared.limits.LineFault.TheVariants as lines
 use Rattle.line_text.specs.declared.limits.LineLimits.{LineLimits}
 use Rattle.line_text.specs.Lines.{without_cr}
 use Rattle.line_text.specs.Marks.{line_fault}
+use Rattle.line_text.specs.Texts.{size_in}
 use Rattle.gr_reader.specs.declared.fault.LineKind.{LineKind}
 use Rattle.gr_reader.specs.declared.fault.LineKind.TheVariants.{BadLine, NoProblem, SecondProblem, SizeRange, NodeRange}
 use Rattle.gr_reader.specs.declared.fault.LineKind.TheVariants.{WeightRange, CountWrong, LineTooLong, FileTooLong}
@@ -30,10 +31,6 @@ limit_kind None = None
 limit_kind (Some lines.TooLong) = Some LineTooLong
 limit_kind (Some lines.Total) = Some FileTooLong
 limit_kind (Some lines.Read) = None
-
--- how many bytes a line takes behind `passed` of so many in all: its LF is one of them, which the last line may lack
-abbrev pub size_in : ℕ → ℕ → List ℕ → ℕ
-size_in total passed line = min (length line + 1) (total - passed)
 
 module _ {P R : Type 0} (rules : Rules P R) where
   -- the test that a line of this form has this fault, where this problem line and so many records stand before it

@@ -11,8 +11,8 @@ mod fields;
 mod grammar;
 pub mod laws;
 mod read;
-mod record_lines;
 mod record_sink;
+mod records;
 mod weight_form;
 mod weights;
 
@@ -20,6 +20,5 @@ pub use fault::{FileFault, LineKind};
 pub use fields::{front_number, number, only_number, three_fields};
 pub use grammar::{Grammar, LineForm};
 pub use read::{read_gr, read_into, read_records};
-pub use record_lines::RecordLines;
 pub use record_sink::RecordSink;
 pub use weights::{Sizes, WeightFiles};

@@ -1,18 +1,19 @@
 ghost use Rattle.std.specs.Prelude.{◌≡◌, ◌+◌, ◌≤◌, ◌^◌, IfErr, IfSome};
 ghost use Rattle.route_io.specs.Sources.{ReadsFrom};
 ghost use Rattle.line_text.specs.Reading.{max_line};
+ghost use Rattle.line_text.specs.Texts.{TakesAtMost};
 ghost use Rattle.gr_reader.specs.Grammar.{IsGrFile, weights};
-ghost use Rattle.gr_reader.specs.Reader.{IsComplete, IsSound, MayAnswer, ReadsWhole, TakesAtMost, file_failed};
+ghost use Rattle.gr_reader.specs.Reader.{IsComplete, IsSound, MayAnswer, ReadsWhole, file_failed};
 ghost use Rattle.gr_reader.specs.Sinks.{ReadsInto};
 
 use crate::arc_sink::OneFile;
 use crate::fault::FileFault;
 use crate::grammar::Grammar;
-use crate::record_lines::RecordLines;
 use crate::record_sink::RecordSink;
+use crate::records::{end, take_line};
 use crate::weights::WeightFiles;
 use arc_graph::ArcFile;
-use line_text::LineLimits;
+use line_text::{LineLimits, Lines};
 use route_io::Source;
 use std::alloc::Global;
 
@@ -100,11 +101,14 @@ pub fn read_records<G: Grammar, S: Source, K: RecordSink<G>>(
     // The source's failures alone make a failed read.
     ensures source { ReadsFrom (S.state source.old) (S.state source.new) (file_failed result) }
 {
-    let mut lines: RecordLines<G> = RecordLines::new(alloc, limits)?;
-    let problem = lines.begin(source)?;
-    sink.begin(problem)?;
-    'records: while let Some(next) = lines.next_record(source)? {
-        sink.take(next)?;
+    let mut lines = Lines::new(alloc, limits)?;
+    let mut begun = None;
+    'lines: loop {
+        match lines.next_line(source) {
+            Ok(true) => {}
+            Ok(false) => return end::<G>(begun, lines.number() + 1),
+            Err(fault) => return Err(FileFault::at_line(fault, lines.number() + 1)),
+        }
+        begun = take_line::<G, K>(lines.text(), lines.number(), begun, sink)?;
     }
-    Ok(())
 }

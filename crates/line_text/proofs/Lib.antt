@@ -6,4 +6,5 @@ pub mod LineLemmas
 pub mod NumeralLemmas
 pub mod RefillsLemmas
 pub mod RequestLemmas
+pub mod TextLemmas
 pub mod WrittenLineLemmas

@@ -54,5 +54,5 @@ refills_none old source end = record {
   known = Consumes-nil (left_for old source);
   answer = (refl, end);
   knows_end = λ knows. knows;
-  source = record { cause = refl; files = refl };
+  source = record { cause = refl; files = refl; selected = refl };
 }

@@ -8,3 +8,4 @@ pub mod Pieces
 pub mod Reading
 pub mod Requests
 pub mod RequestSteps
+pub mod Texts

@@ -1,5 +1,5 @@
 -- The numbers that digits write.
-use Rattle.std.specs.Prelude.{◌≡◌, ℕ, nat_lt, if◌then◌else◌, ◌&&◌, Bool, List, length, Option, Some, None}
+use Rattle.std.specs.Prelude.{◌≡◌, ℕ, nat_le, nat_lt, if◌then◌else◌, ◌&&◌, Bool, List, [], ◌∷◌, length, Option, Some, None}
 use Rattle.std.specs.Char.{is_ascii_digit}
 use Rattle.std.specs.List.{list_all}
 use Rattle.std.specs.Str.Parse.{digits_value}
@@ -34,3 +34,21 @@ pub record FirstNumeral (text : List ℕ) (greatest : ℕ) (numeral : Numeral) (
   pub field : List ℕ
   pub first : FirstField text field rest
   pub reads : numeral ≡ numeral_of field greatest
+
+-- the number that a field writes in digits, where it is from `least` to `greatest`
+abbrev pub number_in : ℕ → ℕ → List ℕ → Option ℕ
+number_in least greatest field =
+    if is_digits field && (nat_le least (value_of field) && nat_le (value_of field) greatest)
+    then Some (value_of field)
+    else None
+
+-- the number that the first of these fields writes, where it is in range
+abbrev pub front_in : ℕ → ℕ → List (List ℕ) → Option ℕ
+front_in least greatest [] = None
+front_in least greatest (field ∷ fields) = number_in least greatest field
+
+-- The first of these fields writes this number, which is in range, and the others stand behind it.
+pub record FirstIn (least greatest : ℕ) (fields : List (List ℕ)) (number : ℕ) (others : List (List ℕ)) : Type 0 where
+  pub field : List ℕ
+  pub parts : fields ≡ field ∷ others
+  pub writes : number_in least greatest field ≡ Some number

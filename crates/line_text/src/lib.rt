@@ -13,4 +13,4 @@ mod numerals;
 pub use fields::{behind_byte, field, first_byte, next_field};
 pub use limits::{LineFault, LineLimits, Request};
 pub use lines::{Lines, MAX_HELD, MAX_LINE};
-pub use numerals::{Numeral, decimal, next_number, put_decimal};
+pub use numerals::{Numeral, decimal, next_in, next_number, put_decimal};

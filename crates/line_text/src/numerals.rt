@@ -1,10 +1,10 @@
 ghost use Rattle.std.specs.Prelude.{◌≡◌, ◌<◌, ◌≤◌, ◌+◌, ◌-◌, ◌*◌, [], false, length, take, true, decimal as decimal_text};
-ghost use Rattle.std.specs.Prelude.{IfSome, MatchOption, min};
+ghost use Rattle.std.specs.Prelude.{IfSome, MatchOption, None, min};
 ghost use Rattle.std.specs.Char.{is_ascii_digit};
 ghost use Rattle.std.specs.List.{prefix_len};
 ghost use Rattle.route_io.specs.Sinks.{Sends};
 ghost use Rattle.line_text.specs.Fields.{fields_of};
-ghost use Rattle.line_text.specs.Numerals.{FirstNumeral, at_most, numeral_of, numeral_or_above};
+ghost use Rattle.line_text.specs.Numerals.{FirstIn, FirstNumeral, at_most, front_in, numeral_of, numeral_or_above};
 ghost use Rattle.line_text.specs.Numerals.{value_of};
 
 use crate::fields::{begins_blank, behind_blanks, filled_len, is_blank};
@@ -49,7 +49,18 @@ pub fn next_number(text: &[u8], greatest: u64) -> Option<(Numeral, &[u8])>
     }
 }
 
-/// The same, where it is a number of fewer than `FEW` digits behind one blank, as nearly all are.
+/// The number that the first field of a text writes, where it is in range, and what stands behind the field.
+pub fn next_in(text: &[u8], least: u64, greatest: u64) -> Option<(u64, &[u8])>
+    ensures { MatchOption result (front_in least greatest (fields_of text.now) ≡ None)
+        (λ found. FirstIn least greatest (fields_of text.now) found.0 (fields_of found.1.now)) }
+{
+    match next_number(text, greatest)? {
+        (Numeral::Value(number), rest) if least <= number => Some((number, rest)),
+        _ => None,
+    }
+}
+
+/// The same as `next_number`, where it is a number of fewer than `FEW` digits behind one blank, as nearly all are.
 #[inline(always)]
 fn short_number(text: &[u8], greatest: u64) -> Option<(Numeral, &[u8])>
     ensures { IfSome result (λ found. FirstNumeral text.now greatest found.0 found.1.now) }

@@ -1,7 +1,8 @@
 ghost use Rattle.std.specs.Prelude.{◌≡◌, ◌+◌, ◌≤◌, ◌^◌, IfErr, IfSome};
 ghost use Rattle.route_io.specs.Sources.{ReadsFrom};
 ghost use Rattle.line_text.specs.Reading.{max_line};
-ghost use Rattle.gr_reader.specs.Reader.{IsComplete, IsSound, TakesAtMost, file_failed};
+ghost use Rattle.line_text.specs.Texts.{TakesAtMost};
+ghost use Rattle.gr_reader.specs.Reader.{IsComplete, IsSound, file_failed};
 ghost use Rattle.query_reader.specs.Answers.{BlamesNoWeight, listed};
 ghost use Rattle.query_reader.specs.Grammar.{IsPairs, pairs};
 

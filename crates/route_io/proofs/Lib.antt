@@ -1,3 +1,4 @@
 pub mod FileLemmas
+pub mod OffersLemmas
 pub mod ReadsLemmas
 pub mod SendsLemmas

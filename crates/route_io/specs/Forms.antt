@@ -13,7 +13,7 @@ pub record MemorySource : Type 0 where
 
 -- what it shows as a source
 abbrev pub memory_source_state : MemorySource → SourceState
-memory_source_state source = record { left = Some source.left; files = None; faults = source.calls.faults }
+memory_source_state source = record { left = Some source.left; files = None; selected = None; faults = source.calls.faults }
 
 -- a sink in memory: the bytes that it took, the most that it takes in all and in one write, its wants, and its calls
 pub record MemorySink : Type 0 where
@@ -25,7 +25,7 @@ pub record MemorySink : Type 0 where
 
 -- what it shows as a sink
 abbrev pub memory_sink_state : MemorySink → SinkState
-memory_sink_state sink = record { sent = Some sink.sent; faults = sink.calls.faults; wants = sink.wants }
+memory_sink_state sink = record { sent = Some sink.sent; offered = None; faults = sink.calls.faults; wants = sink.wants }
 
 -- the most bytes that its next write takes
 abbrev pub room : MemorySink → ℕ
@@ -35,9 +35,11 @@ room sink = min sink.piece (sink.bound - length sink.sent)
 abbrev pub IsFull : MemorySink → Type 0
 IsFull sink = sink.bound ≤ length sink.sent
 
--- a folder in memory: its files, what is left of the one selected last, the most that a read gives, and its calls
+-- a folder in memory: its files, the name selected last and what is left of that file, the most that a read gives, and
+-- its calls
 pub record MemoryFolder : Type 0 where
   pub files : List NamedFile
+  pub selected : Option (List ℕ)
   pub left : List ℕ
   pub piece : ℕ
   pub calls : CallList
@@ -47,12 +49,13 @@ abbrev pub memory_folder_state : MemoryFolder → SourceState
 memory_folder_state folder = record {
   left = Some folder.left;
   files = Some (first_of_name folder.files);
+  selected = folder.selected;
   faults = folder.calls.faults;
 }
 
 -- what a source that never fails shows: it is the list of the bytes that it has left
 abbrev pub sure_source_state : List ℕ → SourceState
-sure_source_state left = record { left = Some left; files = None; faults = 0 }
+sure_source_state left = record { left = Some left; files = None; selected = None; faults = 0 }
 
 -- a sink that never fails: the bytes that it took, and its wants of memory
 pub record SureSink : Type 0 where
@@ -61,11 +64,13 @@ pub record SureSink : Type 0 where
 
 -- what it shows as a sink
 abbrev pub sure_sink_state : SureSink → SinkState
-sure_sink_state sink = record { sent = Some sink.sent; faults = 0; wants = sink.wants }
+sure_sink_state sink = record { sent = Some sink.sent; offered = None; faults = 0; wants = sink.wants }
 
--- a folder that fails at a missing name alone: its files, what is left, and how often a name was missing
+-- a folder that fails at a missing name alone: its files, the name selected last and what is left of that file, and how
+-- often a name was missing
 pub record SureFolder : Type 0 where
   pub files : List NamedFile
+  pub selected : Option (List ℕ)
   pub left : List ℕ
   pub missing : ℕ
 
@@ -74,6 +79,7 @@ abbrev pub sure_folder_state : SureFolder → SourceState
 sure_folder_state folder = record {
   left = Some folder.left;
   files = Some (first_of_name folder.files);
+  selected = folder.selected;
   faults = folder.missing;
 }
 
@@ -82,20 +88,27 @@ abbrev pub open_left : {F : Type 0} → (F → Option (List ℕ)) → Option F �
 open_left remaining None = Some []
 open_left remaining (Some file) = remaining file
 
--- a folder of the host: what is left of the open file, whether one is open, and how often the system has failed
+-- a folder of the host: the name selected last, what is left of the open file, whether one is open, and how often the
+-- system has failed
 pub record HostFolder : Type 0 where
+  pub selected : Option (List ℕ)
   pub left : Option (List ℕ)
   pub is_open : Bool
   pub faults : ℕ
 
 -- what a reader shows as a source: the bytes that it has left, where it tells them, and the number of its faults
 abbrev pub reader_state : Option (List ℕ) → ℕ → SourceState
-reader_state left faults = record { left = left; files = None; faults = faults }
+reader_state left faults = record { left = left; files = None; selected = None; faults = faults }
 
 -- what that folder shows as a folder: it doesn't tell its files
 abbrev pub host_folder_state : HostFolder → SourceState
-host_folder_state folder = reader_state folder.left folder.faults
+host_folder_state folder = record {
+  left = folder.left;
+  files = None;
+  selected = folder.selected;
+  faults = folder.faults;
+}
 
 -- what a writer shows as a sink: the bytes that it holds, where it tells them, and the number of its faults
 abbrev pub writer_state : Option (List ℕ) → ℕ → SinkState
-writer_state contents faults = record { sent = contents; faults = faults; wants = 0 }
+writer_state contents faults = record { sent = contents; offered = None; faults = faults; wants = 0 }

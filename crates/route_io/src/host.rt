@@ -8,6 +8,7 @@ ghost use Rattle.route_io.specs.Sinks.{Writes};
 ghost use Rattle.route_io.specs.Sources.{Reads, Selects};
 
 use crate::calls::count;
+use crate::selected::Selected;
 use crate::{Failed, Folder, Sink, Source, WriteFault};
 use std::fs::{self, Files};
 use std::io::{self, Print, Read, Write};
@@ -17,17 +18,19 @@ use std::marker::Model;
 #[derive(Drop)]
 pub struct HostFolder<R: Files> {
     rt: R,
+    selected: Option<Selected>,
     file: Option<R::File>,
     faults: u64,
 }
 
 impl<R: Files> Model for HostFolder<R> {
-    ghost use Rattle.std.specs.Prelude.{is_some};
+    ghost use Rattle.std.specs.Prelude.{is_some, option_map};
     ghost use Rattle.route_io.specs.Forms.{HostFolder, open_left};
 
     ghost Value = { HostFolder };
 
     ghost view = { λ f. record {
+      selected = option_map (λ selected. selected.name) f.selected;
       left = open_left R.File.remaining f.file;
       is_open = is_some f.file;
       faults = f.faults;
@@ -37,12 +40,14 @@ impl<R: Files> Model for HostFolder<R> {
 impl<R: Files> HostFolder<R> {
     /// The files that this part of the runtime opens, with none open yet.
     pub fn new(rt: R) -> Self
+        ensures unasked { result.selected ≡ None }
         ensures closed { result.is_open ≡ false }
         ensures nothing_left { result.left ≡ Some [] }
         ensures no_faults { result.faults ≡ 0 }
     {
         HostFolder {
             rt,
+            selected: None,
             file: None,
             faults: 0,
         }
@@ -75,6 +80,7 @@ impl<R: Files> Folder for HostFolder<R> {
         ensures selects { Selects
             (host_folder_state self.old) (host_folder_state self.new) name.now result }
     {
+        self.selected = Some(Selected::of(name.as_bytes()));
         self.file = None;
         match fs::open(&self.rt, name) {
             Ok(file) => {

@@ -11,6 +11,7 @@ mod front;
 pub mod host;
 mod link;
 pub mod memory;
+mod selected;
 mod shelf;
 mod sink;
 mod source;

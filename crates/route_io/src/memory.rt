@@ -9,6 +9,7 @@ ghost use Rattle.route_io.specs.Sinks.{Writes};
 ghost use Rattle.route_io.specs.Sources.{Reads, Selects};
 
 use crate::calls::CallList;
+use crate::selected::Selected;
 pub use crate::shelf::NamedFile;
 use crate::shelf::Shelf;
 use crate::sure::{SureSink, SureSource};
@@ -171,17 +172,24 @@ impl Sink for MemorySink {
 #[derive(Drop)]
 pub struct MemoryFolder {
     shelf: Shelf,
+    selected: Option<Selected>,
     piece: usize,
     calls: CallList,
 }
 
 impl Model for MemoryFolder {
-    ghost use Rattle.std.specs.Prelude.{◌≤◌};
+    ghost use Rattle.std.specs.Prelude.{◌≤◌, option_map};
     ghost use Rattle.route_io.specs.Forms.{MemoryFolder};
 
     ghost Value = { MemoryFolder };
 
-    ghost view = { λ f. record { files = f.shelf.files; left = f.shelf.left; piece = f.piece; calls = f.calls } };
+    ghost view = { λ f. record {
+      files = f.shelf.files;
+      selected = option_map (λ selected. selected.name) f.selected;
+      left = f.shelf.left;
+      piece = f.piece;
+      calls = f.calls;
+    } };
 
     ghost invariant = { λ f. 1 ≤ f.piece };
 }
@@ -190,12 +198,14 @@ impl MemoryFolder {
     /// A folder of these files, whose calls of these numbers fail.
     pub fn new(files: Vec<NamedFile>, fails: Vec<u64>) -> Self
         ensures files { result.files ≡ files.items }
+        ensures unasked { result.selected ≡ None }
         ensures closed { result.left ≡ [] }
         ensures piece { result.piece ≡ usize.MAX }
         ensures calls { result.calls ≡ none_made fails.items }
     {
         MemoryFolder {
             shelf: Shelf::new(files),
+            selected: None,
             piece: usize::MAX,
             calls: CallList::new(fails),
         }
@@ -242,6 +252,7 @@ impl Folder for MemoryFolder {
         ensures selects { Selects
             (memory_folder_state self.old) (memory_folder_state self.new) name.now result }
     {
+        self.selected = Some(Selected::of(name.as_bytes()));
         self.shelf.close();
         self.calls.make()?;
         if self.shelf.open(name).is_err() {

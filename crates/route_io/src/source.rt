@@ -5,7 +5,7 @@ use crate::Failed;
 
 /// What bytes are read from.
 pub trait Source {
-    /// What the source has left, its files where it is a folder, and how often it has failed.
+    /// What the source has left, its files and the name selected last where it is a folder, and how often it has failed.
     ghost state: { Self → SourceState };
 
     /// Takes bytes from the front of what is left, and answers how many. 0 is the end of input.

@@ -8,6 +8,7 @@ ghost use Rattle.route_io.specs.Sources.{Reads, Selects};
 
 use crate::calls::count;
 use crate::front::copy_front;
+use crate::selected::Selected;
 use crate::shelf::{NamedFile, Shelf};
 use crate::{Failed, Folder, Sink, Source, WriteFault};
 use std::alloc::Global;
@@ -110,26 +111,35 @@ impl Sink for SureSink {
 #[derive(Drop)]
 pub struct SureFolder {
     shelf: Shelf,
+    selected: Option<Selected>,
     missing: u64,
 }
 
 impl Model for SureFolder {
+    ghost use Rattle.std.specs.Prelude.{option_map};
     ghost use Rattle.route_io.specs.Forms.{SureFolder};
 
     ghost Value = { SureFolder };
 
-    ghost view = { λ f. record { files = f.shelf.files; left = f.shelf.left; missing = f.missing } };
+    ghost view = { λ f. record {
+      files = f.shelf.files;
+      selected = option_map (λ selected. selected.name) f.selected;
+      left = f.shelf.left;
+      missing = f.missing;
+    } };
 }
 
 impl SureFolder {
     /// A folder of these files, of which none is selected yet.
     pub fn new(files: Vec<NamedFile>) -> Self
         ensures files { result.files ≡ files.items }
+        ensures unasked { result.selected ≡ None }
         ensures closed { result.left ≡ [] }
         ensures missing { result.missing ≡ 0 }
     {
         SureFolder {
             shelf: Shelf::new(files),
+            selected: None,
             missing: 0,
         }
     }
@@ -159,6 +169,7 @@ impl Folder for SureFolder {
         ensures selects { Selects
             (sure_folder_state self.old) (sure_folder_state self.new) name.now result }
     {
+        self.selected = Some(Selected::of(name.as_bytes()));
         let opened = self.shelf.open(name);
         if opened.is_err() {
             count(&mut self.missing);

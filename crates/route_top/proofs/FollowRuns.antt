@@ -6,10 +6,10 @@ use Rattle.road_network.specs.Network.{Network}
 use Rattle.route_io.specs.declared.fault.WriteFault.{WriteFault}
 use Rattle.route_io.specs.Files.{FileMap}
 use Rattle.route_io.specs.Sinks.{SinkState, Sends}
-use Rattle.route_io.specs.Sources.{SourceState, ReadsFrom}
+use Rattle.route_io.specs.Sources.{SourceState, ReadsFiles}
 use Rattle.still_commands.specs.declared.stop.Stop.TheVariants as stop
 use Rattle.still_commands.specs.FilesRead.{FilesEnd, ReadAs}
-use Rattle.still_commands.specs.Outcome.{Outcome, done, no_memory, status_of}
+use Rattle.still_commands.specs.Outcome.{Outcome, done, no_memory, failed_file}
 use Rattle.still_commands.specs.Output.{RunsCommand}
 use Rattle.still_commands.specs.Stops.{Replies, outcome_of}
 use Rattle.still_commands.proofs.FilesReadLemmas.{ends_over}
@@ -68,7 +68,7 @@ module _ (files : Option FileMap) (names more : List (List ℕ)) where
 
 -- the network was read, and the run goes on to files that are read whole
 module _ (After : Network → List (List ℕ) → Outcome → List ℕ → Type 0) (files names : List (List ℕ)) (folder mid after : SourceState)
-    (net : Network) (read : ReadAs folder.files files net) (reads : ReadsFrom folder mid false) where
+    (net : Network) (read : ReadAs folder.files files net) (reads : ReadsFiles folder mid None) where
   goes_on_to : (out replied : SinkState) (outcome : Outcome)
       → RunsCommand (ScriptsEnd (After net) mid.files names) mid after out replied outcome
       → RunsCommand (FilesEnd (λ n. ScriptsEnd (After n) folder.files names) folder.files files) folder after out replied outcome
@@ -77,14 +77,14 @@ module _ (After : Network → List (List ℕ) → Outcome → List ℕ → Type 
       (subst (λ fs. RunsCommand (ScriptsEnd (After net) fs names) mid after out replied outcome) reads.files runs)
 
   -- one of them ends the run
-  pub ends_at_named : {outcome : Outcome} (out : SinkState) → ScriptsStop mid.files names outcome → ReadsFrom mid after (status_of outcome == 3)
+  pub ends_at_named : {outcome : Outcome} (out : SinkState) → ScriptsStop mid.files names outcome → ReadsFiles mid after (failed_file outcome)
       → RunsCommand (FilesEnd (λ n. ScriptsEnd (After n) folder.files names) folder.files files) folder after out out outcome
   ends_at_named {outcome} out why more = goes_on_to out out outcome
       (nothing_sent (ScriptsEnd (After net) mid.files names) outcome mid after out (script_leaves_out why.2) (scripts_stop why) more)
 
   -- they were read, and the run only replies
   pub ends_over_named : (scripts : List (List ℕ)) (out replied : SinkState) (outcome : Outcome)
-      → AllZip (SaysScript mid.files) names scripts → ReadsFrom mid after false → Replies (After net scripts) out replied outcome
+      → AllZip (SaysScript mid.files) names scripts → ReadsFiles mid after None → Replies (After net scripts) out replied outcome
       → RunsCommand (FilesEnd (λ n. ScriptsEnd (After n) folder.files names) folder.files files) folder after out replied outcome
   ends_over_named scripts out replied outcome says more replies = goes_on_to out replied outcome
       (runs_then (After net scripts) (ScriptsEnd (After net) mid.files names) (λ o text then. scripts_read scripts says then)

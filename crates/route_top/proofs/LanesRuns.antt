@@ -7,14 +7,14 @@ use Rattle.road_network.specs.Network.{Network}
 use Rattle.route_io.specs.declared.fault.WriteFault.{WriteFault}
 use Rattle.route_io.specs.Files.{FileMap}
 use Rattle.route_io.specs.Sinks.{SinkState, Sends}
-use Rattle.route_io.specs.Sources.{SourceState, ReadsFrom}
+use Rattle.route_io.specs.Sources.{SourceState, ReadsFiles}
 use Rattle.command_words.specs.Words.{scripts_of}
 use Rattle.command_words.specs.declared.commands.Command.TheVariants.{Waiting}
 use Rattle.command_words.specs.declared.commands.LanesWords.{LanesWords}
 use Rattle.command_words.specs.declared.commands.WaitingCommand.TheVariants.{Lanes}
 use Rattle.still_commands.specs.declared.stop.Stop.TheVariants as stop
 use Rattle.still_commands.specs.FilesRead.{ReadAs}
-use Rattle.still_commands.specs.Outcome.{Outcome, done, no_memory, status_of}
+use Rattle.still_commands.specs.Outcome.{Outcome, done, no_memory, failed_file}
 use Rattle.still_commands.specs.Output.{RunsCommand}
 use Rattle.still_commands.specs.Stops.{Replies, outcome_of}
 use Rattle.still_commands.proofs.FilesReadLemmas.{ends_over}
@@ -71,7 +71,7 @@ module _ (asked : LanesWords) (net : Network) (scripts : List (List ℕ)) where
 
 -- the network was read, and the run goes on to the scripts
 module _ (asked : LanesWords) (folder mid after : SourceState) (net : Network) (read : ReadAs folder.files asked.files net)
-    (reads : ReadsFrom folder mid false) where
+    (reads : ReadsFiles folder mid None) where
   goes_on_to_scripts : (out replied : SinkState) (outcome : Outcome)
       → RunsCommand (ScriptsEnd (LanesReplies asked net) mid.files (scripts_of asked)) mid after out replied outcome
       → RunsCommand (Ends folder.files (Waiting (Lanes asked))) folder after out replied outcome
@@ -80,14 +80,14 @@ module _ (asked : LanesWords) (folder mid after : SourceState) (net : Network) (
       (subst (λ files. RunsCommand (ScriptsEnd (LanesReplies asked net) files (scripts_of asked)) mid after out replied outcome) reads.files runs)
 
   -- the scripts end the run
-  pub ends_at_scripts : {outcome : Outcome} (out : SinkState) → ScriptsStop mid.files (scripts_of asked) outcome → ReadsFrom mid after (status_of outcome == 3)
+  pub ends_at_scripts : {outcome : Outcome} (out : SinkState) → ScriptsStop mid.files (scripts_of asked) outcome → ReadsFiles mid after (failed_file outcome)
       → RunsCommand (Ends folder.files (Waiting (Lanes asked))) folder after out out outcome
   ends_at_scripts {outcome} out why more = goes_on_to_scripts out out outcome
       (nothing_sent (ScriptsEnd (LanesReplies asked net) mid.files (scripts_of asked)) outcome mid after out (script_leaves_out why.2) (scripts_stop why) more)
 
   -- they were read, and the run only replies
   pub ends_over_scripts : (scripts : List (List ℕ)) (out replied : SinkState) (outcome : Outcome)
-      → AllZip (SaysScript mid.files) (scripts_of asked) scripts → ReadsFrom mid after false → Replies (LanesReplies asked net scripts) out replied outcome
+      → AllZip (SaysScript mid.files) (scripts_of asked) scripts → ReadsFiles mid after None → Replies (LanesReplies asked net scripts) out replied outcome
       → RunsCommand (Ends folder.files (Waiting (Lanes asked))) folder after out replied outcome
   ends_over_scripts scripts out replied outcome says more replies = goes_on_to_scripts out replied outcome
       (runs_then (LanesReplies asked net scripts) (ScriptsEnd (LanesReplies asked net) mid.files (scripts_of asked))

@@ -1,14 +1,14 @@
 //! The command `follow`.
-ghost use Rattle.std.specs.Prelude.{◌≡◌, ◌==◌, ◌≤◌, ◌+◌, ◌++◌, [], IfErr, IfOk, OnOk, All, codes, false, map};
+ghost use Rattle.std.specs.Prelude.{◌≡◌, ◌≤◌, ◌+◌, ◌++◌, [], IfErr, IfOk, OnOk, All, codes, false, map};
 ghost use Rattle.std.specs.List.{AllZip};
 ghost use Rattle.route_io.specs.Sinks.{Sends};
-ghost use Rattle.route_io.specs.Sources.{ReadsFrom};
+ghost use Rattle.route_io.specs.Sources.{ReadsFiles};
 ghost use Rattle.epoch_follow.specs.Takes.{feed_starved};
 ghost use Rattle.answer_writer.specs.Replies.{and_number, end_line};
 ghost use Rattle.command_words.specs.Ranges.{max_feeds};
 ghost use Rattle.command_words.specs.Words.{feeds_of, names_of_follow, sessions_of};
 ghost use Rattle.command_words.specs.declared.commands.FollowWords.TheVariants.{Take, Write};
-ghost use Rattle.still_commands.specs.Outcome.{status_of};
+ghost use Rattle.still_commands.specs.Outcome.{failed_file};
 ghost use Rattle.still_commands.specs.Output.{RunsCommand};
 ghost use Rattle.still_commands.specs.Stops.{outcome_of, run_outcome};
 ghost use Rattle.route_top.specs.Follow.{FollowEnds, feed_line, feed_lines, numbered};
@@ -131,8 +131,8 @@ fn read_all<'a, F: Folder>(
         All (λ l. l.to ≡ record { sent = []; wants = 0 }) r.1.items) }
     ensures stopped { IfErr result (λ stop. ScriptsStop (F.state folder.old).files
         (feeds_of asked.now ++ sessions_of asked.now) (outcome_of stop)) }
-    ensures folder { ReadsFrom (F.state folder.old) (F.state folder.new)
-        (status_of (run_outcome result) == 3) }
+    ensures folder { ReadsFiles (F.state folder.old) (F.state folder.new)
+        (failed_file (run_outcome result)) }
 {
     let feeds = read_numbered(alloc, folder, asked.feeds.text(), asked.links.get())?;
     let scripts = read_numbered(alloc, folder, asked.stem.text(), asked.count.get())?;
@@ -153,8 +153,8 @@ fn read_numbered<'a, F: Folder>(
         (numbered stem.entry.now count) all.items) }
     ensures stopped { IfErr result (λ stop. ScriptsStop (F.state folder.old).files
         (numbered stem.entry.now count) (outcome_of stop)) }
-    ensures folder { ReadsFrom (F.state folder.old) (F.state folder.new)
-        (status_of (run_outcome result) == 3) }
+    ensures folder { ReadsFiles (F.state folder.old) (F.state folder.new)
+        (failed_file (run_outcome result)) }
 {
     let mut all = Vec::new(alloc);
     for place in 0..count {

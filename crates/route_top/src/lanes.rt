@@ -1,13 +1,13 @@
 //! The command `lanes`.
-ghost use Rattle.std.specs.Prelude.{◌≡◌, ◌==◌, ◌≤◌, ◌++◌, [], IfErr, IfOk, OnOk, All, false, get_or, map};
+ghost use Rattle.std.specs.Prelude.{◌≡◌, ◌≤◌, ◌++◌, [], IfErr, IfOk, OnOk, All, false, get_or, map};
 ghost use Rattle.std.specs.List.{AllZip};
 ghost use Rattle.route_io.specs.Sinks.{Sends};
-ghost use Rattle.route_io.specs.Sources.{ReadsFrom};
+ghost use Rattle.route_io.specs.Sources.{ReadsFiles};
 ghost use Rattle.session_core.specs.Links.{is_starved};
 ghost use Rattle.command_words.specs.Words.{names_of, scripts_of};
 ghost use Rattle.command_words.specs.declared.commands.Command.TheVariants.{Waiting};
 ghost use Rattle.command_words.specs.declared.commands.WaitingCommand.TheVariants.{Lanes};
-ghost use Rattle.still_commands.specs.Outcome.{status_of};
+ghost use Rattle.still_commands.specs.Outcome.{failed_file};
 ghost use Rattle.still_commands.specs.Output.{RunsCommand};
 ghost use Rattle.still_commands.specs.Stops.{outcome_of, run_outcome, script_name};
 ghost use Rattle.route_top.specs.Lanes.{SaysScript, ScriptsStop, heading, lanes_reply};
@@ -83,8 +83,8 @@ fn read_scripts<'a, F: Folder>(
         All (λ l. l.to ≡ record { sent = []; wants = 0 }) links.items) }
     ensures stopped { IfErr result (λ stop. ScriptsStop (F.state folder.old).files
         (scripts_of asked.now) (outcome_of stop)) }
-    ensures folder { ReadsFrom (F.state folder.old) (F.state folder.new)
-        (status_of (run_outcome result) == 3) }
+    ensures folder { ReadsFiles (F.state folder.old) (F.state folder.new)
+        (failed_file (run_outcome result)) }
 {
     let mut links = Vec::new(alloc);
     for number in 0..asked.count.get() + 1 {

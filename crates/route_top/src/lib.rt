@@ -3,7 +3,6 @@
 
 ghost use Rattle.std.specs.Prelude.{◌≡◌, ◌==◌, ◌⊎◌, ℕ, List, All};
 ghost use Rattle.route_io.specs.Causes.{IsCounted};
-ghost use Rattle.route_io.specs.Sources.{ReadsFrom};
 ghost use Rattle.command_words.specs.Words.{AreWords, Asks, names_of, texts_of};
 ghost use Rattle.command_words.specs.declared.commands.Command.TheVariants.{Waiting};
 ghost use Rattle.still_commands.specs.Output.{EndsByWords, IsAskedName, Output, RunsCommand};
@@ -72,7 +71,7 @@ pub fn route<R: Threads + Wait + Clock + Sync, G: Gate, F: Folder, K: Sink, E: S
     ensures only_bad_words { ¬ AreWords (texts_of words.now) → (result ≡ 2) ⊎ (result ≡ 9) }
 
     // The folder's failures alone make status 3, and those of `out` status 4.
-    ensures folder { ReadsFrom (F.state folder.old) (F.state folder.new) (result == 3) }
+    ensures folder { IsCounted (result == 3) (F.state folder.old).faults (F.state folder.new).faults }
     ensures out { IsCounted (result == 4) (K.state out.old).faults (K.state out.new).faults }
 
     // The town is asked by `serve` alone, which serves the links of its doors and gives these back. Its failures alone make

@@ -1,8 +1,8 @@
 //! The scripts of lanes, each of which is read whole.
-ghost use Rattle.std.specs.Prelude.{◌≡◌, ◌==◌, IfOk};
+ghost use Rattle.std.specs.Prelude.{◌≡◌, IfOk};
 ghost use Rattle.std.specs.String.{string_bytes};
-ghost use Rattle.route_io.specs.Sources.{ReadsFrom};
-ghost use Rattle.still_commands.specs.Outcome.{status_of};
+ghost use Rattle.route_io.specs.Sources.{ReadsFiles, ReadsFrom};
+ghost use Rattle.still_commands.specs.Outcome.{failed_file};
 ghost use Rattle.still_commands.specs.Stops.{run_outcome, script_name};
 ghost use Rattle.route_top.specs.Scripts.{ScriptRead, WholeRead, script_failed};
 
@@ -24,8 +24,8 @@ pub(crate) fn read_script<'a, F: Folder>(
 ) -> Result<Vec<u8>, Stop<'a>>
     requires { F.admits (script_name script) }
     ensures read { ScriptRead (F.state folder.old).files (script_name script.entry) result }
-    ensures folder { ReadsFrom (F.state folder.old) (F.state folder.new)
-        (status_of (run_outcome result) == 3) }
+    ensures folder { ReadsFiles (F.state folder.old) (F.state folder.new)
+        (failed_file (run_outcome result)) }
 {
     let name = name_of(alloc, script)?;
     let Ok(()) = folder.select(name.as_str()) else {

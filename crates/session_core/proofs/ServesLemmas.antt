@@ -89,7 +89,7 @@ module _ {State : Type 0} (Progresses : State → List Exchange → State → Ty
     no_http = λ guarded. All-nil _;
     passes = by from.left;
     sent = record { bytes = Appends-nil to.sent; cause = record { faults = refl; wants = refl } };
-    reads = record { cause = refl; files = refl };
+    reads = record { cause = refl; files = refl; selected = refl };
   } where
     by : (left : Option (List ℕ)) → IfSome left (λ text. PassesLines policy.bytes text (begun (record { line = max_request; total = policy.bytes })) left [])
     by None = tt

@@ -11,7 +11,7 @@ use Rattle.query_reader.specs.declared.pairs.Pair.{Pair}
 use Rattle.road_network.specs.Network.{Network}
 use Rattle.route_io.specs.declared.fault.WriteFault.{WriteFault}
 use Rattle.route_io.specs.Sinks.{SinkState}
-use Rattle.route_io.specs.Sources.{SourceState, ReadsFrom}
+use Rattle.route_io.specs.Sources.{SourceState, ReadsFiles}
 use Rattle.route_io.proofs.SendsLemmas.{Sent, Sends-then}
 use Rattle.road_network.specs.declared.query.AnswerKind.TheVariants.{Walks}
 use Rattle.command_words.specs.declared.limits.SearchLimits.{SearchLimits}
@@ -26,7 +26,7 @@ use Rattle.session_core.specs.Sending.{Replied, SendsReply}
 use Rattle.still_commands.specs.declared.stop.Stop.TheVariants as stop
 use Rattle.still_commands.specs.Batch.{BatchReplies, PairsEnd, PairsReplies, PairsStop, RepliesTo, RepliesToEach, SaysPairs, StarvesAtPair}
 use Rattle.still_commands.specs.Batch.{mode_of, pairs_read, pairs_stop, query_between}
-use Rattle.still_commands.specs.Outcome.{Outcome, done, no_memory, status_of}
+use Rattle.still_commands.specs.Outcome.{Outcome, done, no_memory, failed_file}
 use Rattle.still_commands.specs.FilesRead.{ReadAs}
 use Rattle.still_commands.specs.Output.{RunsCommand, StillEnds}
 use Rattle.still_commands.specs.Stops.{Replies, outcome_of, stop_at}
@@ -111,7 +111,7 @@ module _ (mode : SearchMode) (limits : SearchLimits) (net : Network) (pairs : Li
 
 -- the network was read, and the run goes on to the file of pairs
 module _ (asked : BatchWords) (folder mid after : SourceState) (net : Network) (read : ReadAs folder.files asked.files net)
-    (reads : ReadsFrom folder mid false) where
+    (reads : ReadsFiles folder mid None) where
   goes_on_to_pairs : (out replied : SinkState) (outcome : Outcome)
       → RunsCommand (PairsEnd (PairsReplies (mode_of asked.goal) asked.limits net) mid.files asked.pairs) mid after out replied outcome
       → RunsCommand (StillEnds folder.files (Batch asked)) folder after out replied outcome
@@ -120,7 +120,7 @@ module _ (asked : BatchWords) (folder mid after : SourceState) (net : Network) (
       (subst (λ files. RunsCommand (PairsEnd (PairsReplies (mode_of asked.goal) asked.limits net) files asked.pairs) mid after out replied outcome) reads.files runs)
 
   -- that file ends the run
-  pub ends_at_pairs : {outcome : Outcome} (out : SinkState) → PairsStop mid.files asked.pairs outcome → ReadsFrom mid after (status_of outcome == 3)
+  pub ends_at_pairs : {outcome : Outcome} (out : SinkState) → PairsStop mid.files asked.pairs outcome → ReadsFiles mid after (failed_file outcome)
       → RunsCommand (StillEnds folder.files (Batch asked)) folder after out out outcome
   ends_at_pairs {outcome} out why more = goes_on_to_pairs out out outcome
       (nothing_sent (PairsEnd (PairsReplies (mode_of asked.goal) asked.limits net) mid.files asked.pairs) outcome mid after out
@@ -128,7 +128,7 @@ module _ (asked : BatchWords) (folder mid after : SourceState) (net : Network) (
 
   -- it says pairs, and the run only replies
   pub ends_over_pairs : (pairs : List Pair) (out replied : SinkState) (outcome : Outcome) → SaysPairs mid.files asked.pairs pairs
-      → ReadsFrom mid after false → Replies (PairsReplies (mode_of asked.goal) asked.limits net pairs) out replied outcome
+      → ReadsFiles mid after None → Replies (PairsReplies (mode_of asked.goal) asked.limits net pairs) out replied outcome
       → RunsCommand (StillEnds folder.files (Batch asked)) folder after out replied outcome
   ends_over_pairs pairs out replied outcome says more replies = goes_on_to_pairs out replied outcome
       (runs_then (PairsReplies (mode_of asked.goal) asked.limits net pairs) (PairsEnd (PairsReplies (mode_of asked.goal) asked.limits net) mid.files asked.pairs)

@@ -7,7 +7,7 @@ use Rattle.std.proofs.lemmas.List.{get_or-map, length-map, take_all, take_more, 
 use Rattle.std.proofs.lemmas.Slice.Zip.{all_zipped_more}
 use Rattle.route_io.specs.Files.{FileMap, Opens}
 use Rattle.route_io.specs.Sinks.{SinkState}
-use Rattle.route_io.specs.Sources.{SourceState, ReadsFrom}
+use Rattle.route_io.specs.Sources.{SourceState, ReadsFiles}
 use Rattle.road_network.specs.Network.{Network}
 use Rattle.arc_graph.specs.declared.join.JoinFault.{JoinFault}
 use Rattle.arc_graph.specs.declared.join.JoinFault.TheVariants as join
@@ -17,7 +17,7 @@ use Rattle.gr_reader.specs.Sinks.{JoinerHasTaken, TakesFile}
 use Rattle.gr_reader.specs.declared.fault.LineKind.{LineKind}
 use Rattle.still_commands.specs.FilesRead.{Tells, Says, FileStop, ReadingStop, FilesStop, FilesEnd, ReadAs}
 use Rattle.still_commands.specs.FilesRead.{reading_limits, failed, faulty, starved, at_file, disagree, unjoined, stops, goes_on}
-use Rattle.still_commands.specs.Outcome.{Outcome, status_of}
+use Rattle.still_commands.specs.Outcome.{Outcome, failed_file}
 use Rattle.still_commands.specs.Output.{RunsCommand}
 use Rattle.still_commands.specs.ReadResults.{HasRead, TakesNamed}
 use Rattle.still_commands.specs.Stops.{outcome_of, stop_of}
@@ -101,12 +101,12 @@ leaves_out unjoined = record { no_fault = refl; no_want = refl }
 
 module _ (After : Network → Outcome → List ℕ → Type 0) (names : List (List ℕ)) (folder after : SourceState) where
   -- the files end the run
-  pub ends_at_files : {outcome : Outcome} (out : SinkState) → FilesStop folder.files names outcome → ReadsFrom folder after (status_of outcome == 3)
+  pub ends_at_files : {outcome : Outcome} (out : SinkState) → FilesStop folder.files names outcome → ReadsFiles folder after (failed_file outcome)
       → RunsCommand (FilesEnd After folder.files names) folder after out out outcome
   ends_at_files out stop reads = nothing_sent (FilesEnd After folder.files names) _ folder after out (leaves_out stop) (stops stop) reads
 
   -- the run goes on over the network
   pub ends_over : (net : Network) (mid : SourceState) (out replied : SinkState) (outcome : Outcome) → ReadAs folder.files names net
-      → ReadsFrom folder mid false → RunsCommand (After net) mid after out replied outcome → RunsCommand (FilesEnd After folder.files names) folder after out replied outcome
+      → ReadsFiles folder mid None → RunsCommand (After net) mid after out replied outcome → RunsCommand (FilesEnd After folder.files names) folder after out replied outcome
   ends_over net mid out replied outcome read reads runs =
       runs_then (After net) (FilesEnd After folder.files names) (λ o text then. goes_on net read then) folder mid after out replied outcome reads runs

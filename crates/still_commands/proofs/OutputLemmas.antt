@@ -1,9 +1,10 @@
 -- What a run does, by its words.
 use Rattle.std.proofs.Common.{◌≡◌, ◌≢◌, ℕ, List, [], ◌⊎◌, inl, inr, length, refl, subst, ap, arith}
-use Rattle.std.specs.Prelude.{Option, Some, None, MatchOption}
+use Rattle.std.specs.Prelude.{◌==◌, is_some, Option, Some, None, MatchOption}
+use Rattle.route_io.specs.Causes.{IsCounted}
 use Rattle.route_io.specs.Files.{FileMap}
 use Rattle.route_io.specs.Sinks.{SinkState}
-use Rattle.route_io.specs.Sources.{SourceState}
+use Rattle.route_io.specs.Sources.{SourceState, ReadsFiles}
 use Rattle.command_words.specs.Words.{Fails, asked as asked_by}
 use Rattle.command_words.specs.declared.commands.GenWords.{GenWords}
 use Rattle.command_words.specs.declared.commands.StillCommand.{StillCommand}
@@ -14,7 +15,7 @@ use Rattle.still_commands.specs.Batch.{pairs_read, pairs_stop}
 use Rattle.still_commands.specs.FilesRead.{at_file, stops, goes_on}
 use Rattle.still_commands.specs.Gen.{SendsFile, SendsSummary}
 use Rattle.still_commands.specs.Outcome.{Outcome}
-use Rattle.still_commands.specs.Outcome.{done, bad_words, folder_failed, out_failed, bad_cert, bad_file, bad_files, bad_pairs, failed_rule, script_too_long, refused, no_memory, out_wanted, status_of, town_failed}
+use Rattle.still_commands.specs.Outcome.{done, bad_words, folder_failed, out_failed, bad_cert, bad_file, bad_files, bad_pairs, failed_rule, failed_file, script_too_long, refused, no_memory, out_wanted, status_of, town_failed}
 use Rattle.still_commands.specs.Output.{EndsByWords, no_command, starved, asks, EndsOrCut, uncut, failed, wanted, RunsCommand, StillEnds}
 use Rattle.still_commands.specs.Verify.{cert_holds, cert_stops}
 use Rattle.still_commands.specs.Stops.{outcome_of}
@@ -36,6 +37,29 @@ is_bad_words out_wanted two = cc
 is_bad_words town_failed two = cc
 is_bad_words (bad_cert name line) two = cc
 is_bad_words (failed_rule name rule label) two = cc
+
+-- status 3 and a file at which the folder failed go together
+fails_at_three : (outcome : Outcome) → is_some (failed_file outcome) ≡ (status_of outcome == 3)
+fails_at_three done = refl
+fails_at_three bad_words = refl
+fails_at_three (folder_failed name) = refl
+fails_at_three out_failed = refl
+fails_at_three (bad_file name line kind) = refl
+fails_at_three (bad_files way) = refl
+fails_at_three (bad_pairs name line kind) = refl
+fails_at_three (script_too_long name) = refl
+fails_at_three refused = refl
+fails_at_three no_memory = refl
+fails_at_three out_wanted = refl
+fails_at_three town_failed = refl
+fails_at_three (bad_cert name line) = refl
+fails_at_three (failed_rule name rule label) = refl
+
+-- the folder's failures alone make status 3
+pub counts_at_three : {old new : SourceState} (outcome : Outcome) (status : ℕ) → status ≡ status_of outcome
+    → ReadsFiles old new (failed_file outcome) → IsCounted (status == 3) old.faults new.faults
+counts_at_three {old} {new} outcome status is reads =
+    rw is (subst (λ failed. IsCounted failed old.faults new.faults) (fails_at_three outcome) reads.cause)
 
 -- runs whose commands end so
 module _ {Command : Type 0} (Ends : Option FileMap → Command → Outcome → List ℕ → Type 0) (IsAsked : Command → Type 0) where

@@ -5,12 +5,12 @@ use Rattle.std.specs.Io.KnownBytes.{Appends}
 use Rattle.route_io.specs.declared.fault.WriteFault.{WriteFault}
 use Rattle.route_io.specs.declared.fault.WriteFault.TheVariants as write
 use Rattle.route_io.specs.Sinks.{SinkState, Sends}
-use Rattle.route_io.specs.Sources.{SourceState, ReadsFrom}
-use Rattle.route_io.proofs.ReadsLemmas.{ReadsFrom-then}
+use Rattle.route_io.specs.Sources.{SourceState, ReadsFiles}
+use Rattle.route_io.proofs.ReadsLemmas.{ReadsFiles-then}
 use Rattle.session_core.specs.declared.reply.Reply.{Reply}
 use Rattle.session_core.specs.declared.reply.Reply.TheVariants.{Answer, Refusal}
 use Rattle.still_commands.specs.declared.stop.Stop.TheVariants as stop
-use Rattle.still_commands.specs.Outcome.{Outcome, done, refused, no_memory, status_of, out_has_wanted}
+use Rattle.still_commands.specs.Outcome.{Outcome, done, refused, no_memory, failed_file, status_of, out_has_wanted}
 use Rattle.still_commands.specs.Output.{TookNote, RunsCommand, EndsOrCut, uncut, failed, wanted, IsCut}
 use Rattle.still_commands.specs.Stops.{IsReply, Replies, outcome_of, reply_outcome}
 
@@ -20,8 +20,8 @@ appends_nothing None = tt
 appends_nothing (Some bytes) = sym (append-nil bytes)
 
 -- nothing was read
-pub stays : (folder : SourceState) → ReadsFrom folder folder false
-stays folder = record { cause = refl; files = refl }
+pub stays : (folder : SourceState) → ReadsFiles folder folder None
+stays folder = record { cause = refl; files = refl; named = tt }
 
 -- an outcome is neither a failure nor a want of memory of the sink
 pub record LeavesOut (outcome : Outcome) : Type 0 where
@@ -30,7 +30,7 @@ pub record LeavesOut (outcome : Outcome) : Type 0 where
 
 -- a run ends so with nothing sent
 pub nothing_sent : (Ending : Outcome → List ℕ → Type 0) (outcome : Outcome) (folder after : SourceState) (out : SinkState) → LeavesOut outcome
-    → Ending outcome [] → ReadsFrom folder after (status_of outcome == 3) → RunsCommand Ending folder after out out outcome
+    → Ending outcome [] → ReadsFiles folder after (failed_file outcome) → RunsCommand Ending folder after out out outcome
 nothing_sent Ending outcome folder after out leaves whole reads = record {
   text = [];
   took = appends_nothing out.sent;
@@ -40,12 +40,12 @@ nothing_sent Ending outcome folder after out leaves whole reads = record {
 }
 
 module _ (end : Outcome) (reply : List ℕ) (out replied : SinkState) where
-  pub sent_whole : LeavesOut end → (status_of end == 3) ≡ false → Sends {T = Unit {0}} out replied reply (Ok tt) → Replies (IsReply end reply) out replied end
-  sent_whole leaves reads_nothing sends = λ folder. record {
+  pub sent_whole : LeavesOut end → failed_file end ≡ None → Sends {T = Unit {0}} out replied reply (Ok tt) → Replies (IsReply end reply) out replied end
+  sent_whole leaves none_failed sends = λ folder. record {
     text = reply;
     took = sends.bytes;
     ends = uncut (refl, refl);
-    reads = rw reads_nothing (stays folder);
+    reads = rw none_failed (stays folder);
     writes = rw (leaves.no_fault, leaves.no_want) sends.cause;
   }
 
@@ -99,13 +99,13 @@ module _ (Ending Other : Outcome → List ℕ → Type 0) (each : (outcome : Out
   ends_as (wanted cut) = wanted (cut_as _ cut)
 
   -- it goes on where files were read before
-  pub runs_then : (folder mid after : SourceState) (out replied : SinkState) (outcome : Outcome) → ReadsFrom folder mid false
+  pub runs_then : (folder mid after : SourceState) (out replied : SinkState) (outcome : Outcome) → ReadsFiles folder mid None
       → RunsCommand Ending mid after out replied outcome → RunsCommand Other folder after out replied outcome
   runs_then folder mid after out replied outcome read runs = record {
     text = runs.text;
     took = runs.took;
     ends = ends_as runs.ends;
-    reads = ReadsFrom-then folder mid after (status_of outcome == 3) read runs.reads;
+    reads = ReadsFiles-then folder mid after (failed_file outcome) read runs.reads;
     writes = runs.writes;
   }
 

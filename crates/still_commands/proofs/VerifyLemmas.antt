@@ -8,7 +8,7 @@ use Rattle.road_network.proofs.AnswerLaws.{has_answer, some_list}
 use Rattle.road_network.specs.declared.query.AnswerKind.TheVariants.{Walks}
 use Rattle.route_io.specs.Files.{FileMap, Opens}
 use Rattle.route_io.specs.Sinks.{SinkState}
-use Rattle.route_io.specs.Sources.{SourceState, ReadsFrom}
+use Rattle.route_io.specs.Sources.{SourceState, ReadsFiles}
 use Rattle.cert_rules.specs.Certificates.{Certificate, IsCertificate}
 use Rattle.cert_rules.specs.Rules.{IsFirstFailure}
 use Rattle.cert_rules.specs.declared.rule.Rule.{Rule}
@@ -17,7 +17,7 @@ use Rattle.answer_writer.specs.Replies.{reply_of}
 use Rattle.command_words.specs.declared.commands.StillCommand.TheVariants.{Verify}
 use Rattle.command_words.specs.declared.commands.VerifyWords.{VerifyWords}
 use Rattle.still_commands.specs.FilesRead.{ReadAs, Tells}
-use Rattle.still_commands.specs.Outcome.{Outcome, status_of}
+use Rattle.still_commands.specs.Outcome.{Outcome, failed_file}
 use Rattle.still_commands.specs.Output.{RunsCommand, StillEnds}
 use Rattle.still_commands.specs.Stops.{Replies}
 use Rattle.still_commands.specs.Verify.{CertReplies, CertStop, FailsFirst, HasItsAnswer, HoldsAt, VerifyEnds, cert_holds, cert_stops, query_of}
@@ -55,7 +55,7 @@ cert_leaves_out starved = record { no_fault = refl; no_want = refl }
 
 -- the network was read, and the run goes on to the certificate
 module _ (asked : VerifyWords) (folder mid after : SourceState) (net : Network) (read : ReadAs folder.files asked.files net)
-    (reads : ReadsFrom folder mid false) where
+    (reads : ReadsFiles folder mid None) where
   goes_on_to_cert : (out replied : SinkState) (outcome : Outcome) → RunsCommand (VerifyEnds mid.files asked.cert net) mid after out replied outcome
       → RunsCommand (StillEnds folder.files (Verify asked)) folder after out replied outcome
   goes_on_to_cert out replied outcome runs =
@@ -63,14 +63,14 @@ module _ (asked : VerifyWords) (folder mid after : SourceState) (net : Network) 
       (subst (λ files. RunsCommand (VerifyEnds files asked.cert net) mid after out replied outcome) reads.files runs)
 
   -- the certificate ends it
-  pub ends_at_cert : {outcome : Outcome} (out : SinkState) → CertStop mid.files net asked.cert outcome → ReadsFrom mid after (status_of outcome == 3)
+  pub ends_at_cert : {outcome : Outcome} (out : SinkState) → CertStop mid.files net asked.cert outcome → ReadsFiles mid after (failed_file outcome)
       → RunsCommand (StillEnds folder.files (Verify asked)) folder after out out outcome
   ends_at_cert {outcome} out stop more = goes_on_to_cert out out outcome
       (nothing_sent (VerifyEnds mid.files asked.cert net) outcome mid after out (cert_leaves_out stop) (cert_stops stop) more)
 
   -- no rule fails at it, and the run only replies
   pub ends_over_cert : (cert : Certificate) (out replied : SinkState) (outcome : Outcome) → IsCertificate net cert
-      → Tells mid.files asked.cert (HoldsAt net cert) → ReadsFrom mid after false → Replies (CertReplies net cert) out replied outcome
+      → Tells mid.files asked.cert (HoldsAt net cert) → ReadsFiles mid after None → Replies (CertReplies net cert) out replied outcome
       → RunsCommand (StillEnds folder.files (Verify asked)) folder after out replied outcome
   ends_over_cert cert out replied outcome is says more replies = goes_on_to_cert out replied outcome
       (runs_then (CertReplies net cert) (VerifyEnds mid.files asked.cert net) (λ o text then. cert_holds cert is says then) mid after after

@@ -1,5 +1,5 @@
 -- How a run ends, with its status and its note.
-use Rattle.std.specs.Prelude.{ℕ, List, [], ◌++◌, Bool, true, false, codes}
+use Rattle.std.specs.Prelude.{ℕ, List, [], ◌++◌, Bool, true, false, Option, Some, None, codes}
 use Rattle.gr_reader.specs.declared.fault.LineKind.{LineKind}
 use Rattle.gr_reader.specs.Kinds.{kind_number}
 use Rattle.arc_graph.specs.declared.join.Disagreement.{Disagreement}
@@ -55,6 +55,11 @@ status_of (bad_cert name line) = 11
 status_of (failed_rule name rule label) = 12
 status_of no_memory = 9
 status_of out_wanted = 9
+
+-- the file at which the folder failed, where that ended the run
+abbrev pub failed_file : Outcome → Option (List ℕ)
+failed_file (folder_failed name) = Some name
+failed_file outcome = None
 
 -- the sink of replies itself wanted memory
 abbrev pub out_has_wanted : Outcome → Bool

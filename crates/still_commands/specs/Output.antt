@@ -3,7 +3,7 @@ use Rattle.std.specs.Prelude.{◌≡◌, ◌==◌, ℕ, ◌<◌, List, [], Optio
 use Rattle.std.specs.Io.KnownBytes.{Appends}
 use Rattle.route_io.specs.Files.{FileMap}
 use Rattle.route_io.specs.Sinks.{SinkState, Sends, WritesTo}
-use Rattle.route_io.specs.Sources.{SourceState, ReadsFrom}
+use Rattle.route_io.specs.Sources.{SourceState, ReadsFiles}
 use Rattle.route_io.specs.declared.fault.WriteFault.{WriteFault}
 use Rattle.road_network.specs.declared.query.AnswerKind.TheVariants.{Walks}
 use Rattle.session_core.specs.declared.mode.SearchMode.TheVariants as search
@@ -16,7 +16,7 @@ use Rattle.still_commands.specs.Check.{CheckReplies}
 use Rattle.still_commands.specs.FilesRead.{FilesEnd}
 use Rattle.still_commands.specs.Gen.{GenEnds}
 use Rattle.still_commands.specs.Outcome.{Outcome, bad_words, out_failed, no_memory, out_wanted}
-use Rattle.still_commands.specs.Outcome.{status_of, note_of, out_has_wanted}
+use Rattle.still_commands.specs.Outcome.{status_of, note_of, failed_file, out_has_wanted}
 use Rattle.still_commands.specs.Prove.{ProveReplies}
 use Rattle.still_commands.specs.Queries.{QueryReplies}
 use Rattle.still_commands.specs.Verify.{VerifyEnds}
@@ -79,8 +79,8 @@ pub record RunsCommand (Ending : Outcome → List ℕ → Type 0) (folder after 
   pub text : List ℕ
   pub took : Appends out.sent replied.sent text
   pub ends : EndsOrCut Ending outcome text
-  -- the folder's failures alone make status 3, and those of the sink status 4
-  pub reads : ReadsFrom folder after (status_of outcome == 3)
+  -- the folder's failures alone make status 3, whose note names the file selected last; those of the sink make status 4
+  pub reads : ReadsFiles folder after (failed_file outcome)
   pub writes : WritesTo out replied (status_of outcome == 4) (out_has_wanted outcome)
 
 -- The sink took the note, or a part of it from the front, short of the whole, and failed or wanted memory.

@@ -1,13 +1,13 @@
 //! The command `batch`.
-ghost use Rattle.std.specs.Prelude.{◌≡◌, ◌==◌, ◌≤◌, ◌<◌, ◌^◌, ℕ, List, ◌∷◌, All, IfOk, length};
+ghost use Rattle.std.specs.Prelude.{◌≡◌, ◌≤◌, ◌<◌, ◌^◌, ℕ, List, ◌∷◌, All, IfOk, length};
 ghost use Rattle.road_network.specs.Network.{Network};
 ghost use Rattle.road_network.specs.Queries.{IsAsked};
 ghost use Rattle.command_words.specs.Words.{names_of_still};
 ghost use Rattle.command_words.specs.declared.commands.StillCommand.TheVariants.{Batch};
-ghost use Rattle.route_io.specs.Sources.{ReadsFrom};
+ghost use Rattle.route_io.specs.Sources.{ReadsFiles};
 ghost use Rattle.still_commands.specs.Ahead.{AreAhead, IsAhead};
 ghost use Rattle.still_commands.specs.Batch.{PairsReplies, mode_of, query_between};
-ghost use Rattle.still_commands.specs.Outcome.{status_of};
+ghost use Rattle.still_commands.specs.Outcome.{failed_file};
 ghost use Rattle.still_commands.specs.Output.{RunsCommand, StillEnds};
 ghost use Rattle.still_commands.specs.ReadResults.{PairsRead};
 ghost use Rattle.still_commands.specs.Stops.{Replies, run_outcome};
@@ -79,8 +79,8 @@ fn read_pairs<'a, F: Folder>(
 ) -> Result<Vec<Pair>, Stop<'a>>
     requires { F.admits name.now }
     ensures read { PairsRead (F.state folder.old).files name.now result }
-    ensures folder { ReadsFrom (F.state folder.old) (F.state folder.new)
-        (status_of (run_outcome result) == 3) }
+    ensures folder { ReadsFiles (F.state folder.old) (F.state folder.new)
+        (failed_file (run_outcome result)) }
 {
     let Ok(()) = folder.select(name) else {
         return Err(Stop::Folder { name });

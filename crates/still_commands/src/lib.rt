@@ -3,7 +3,6 @@
 
 ghost use Rattle.std.specs.Prelude.{◌≡◌, ◌==◌, ◌⊎◌, ℕ, List, All};
 ghost use Rattle.route_io.specs.Causes.{IsCounted};
-ghost use Rattle.route_io.specs.Sources.{ReadsFrom};
 ghost use Rattle.command_words.specs.Words.{names_of_still, texts_of};
 ghost use Rattle.still_commands.specs.Outcome.{note_of, status_of};
 ghost use Rattle.still_commands.specs.Output.{AreStillWords, AsksStill, EndsByWords, IsAskedName, Output};
@@ -61,7 +60,7 @@ pub fn run_still<R: Threads + Sync, G: Gate, F: Folder, K: Sink, E: Sink>(
     ensures only_bad_words { ¬ AreStillWords (texts_of words.now) → (result ≡ 2) ⊎ (result ≡ 9) }
 
     // The folder's failures alone make status 3, and those of `out` status 4.
-    ensures folder { ReadsFrom (F.state folder.old) (F.state folder.new) (result == 3) }
+    ensures folder { IsCounted (result == 3) (F.state folder.old).faults (F.state folder.new).faults }
     ensures out { IsCounted (result == 4) (K.state out.old).faults (K.state out.new).faults }
 {
     end(alloc, run(rt, alloc, words, folder, out, gate), err)

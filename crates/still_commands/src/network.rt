@@ -1,11 +1,11 @@
 //! Reads the named files and joins them.
-ghost use Rattle.std.specs.Prelude.{◌≡◌, ◌≤◌, ◌==◌, length, IfOk, All, map};
+ghost use Rattle.std.specs.Prelude.{◌≡◌, ◌≤◌, length, IfOk, All, map};
 ghost use Rattle.arc_graph.specs.Graph.{Match, network};
 ghost use Rattle.road_network.specs.Network.{IsNetwork};
 ghost use Rattle.command_words.specs.Ranges.{max_files};
 ghost use Rattle.gr_reader.specs.Sinks.{JoinerIsReady};
-ghost use Rattle.route_io.specs.Sources.{ReadsFrom};
-ghost use Rattle.still_commands.specs.Outcome.{status_of};
+ghost use Rattle.route_io.specs.Sources.{ReadsFiles};
+ghost use Rattle.still_commands.specs.Outcome.{failed_file};
 ghost use Rattle.still_commands.specs.ReadResults.{FileRead, FilesAreRead, NetworkRead, SizesRead};
 ghost use Rattle.still_commands.specs.Stops.{run_outcome};
 
@@ -34,8 +34,8 @@ pub fn read_network<'a, F: Folder>(
     ensures is_network { IfOk result (λ r. IsNetwork (network r.0 r.1)) }
     ensures matched { IfOk result (λ r. Match r.0 r.1) }
     ensures read { NetworkRead (F.state folder.old).files names.now result }
-    ensures folder { ReadsFrom (F.state folder.old) (F.state folder.new)
-        (status_of (run_outcome result) == 3) }
+    ensures folder { ReadsFiles (F.state folder.old) (F.state folder.new)
+        (failed_file (run_outcome result)) }
 {
     let joiner = read_files(alloc, folder, names.as_slice())?;
     Ok(joiner.finish()?)
@@ -49,8 +49,8 @@ pub(crate) fn read_sizes<'a, F: Folder>(
 ) -> Result<NetworkSizes, Stop<'a>>
     requires { All F.admits names.now }
     ensures read { SizesRead (F.state folder.old).files names.now result }
-    ensures folder { ReadsFrom (F.state folder.old) (F.state folder.new)
-        (status_of (run_outcome result) == 3) }
+    ensures folder { ReadsFiles (F.state folder.old) (F.state folder.new)
+        (failed_file (run_outcome result)) }
 {
     let joiner = read_files(alloc, folder, names.as_slice())?;
     Ok(joiner.sizes()?)
@@ -68,8 +68,8 @@ fn read_files<'a, F: Folder>(
     ensures whole { IfOk result (λ joiner. joiner.come ≡ joiner.due_arcs) }
     ensures read { FilesAreRead (F.state folder.old).files
         (map (λ name. name.now) names.now) result }
-    ensures folder { ReadsFrom (F.state folder.old) (F.state folder.new)
-        (status_of (run_outcome result) == 3) }
+    ensures folder { ReadsFiles (F.state folder.old) (F.state folder.new)
+        (failed_file (run_outcome result)) }
 {
     let mut joiner = Joiner::new(alloc);
     for name in names {
@@ -88,8 +88,8 @@ fn read_file<'a, F: Folder>(
     requires admitted { F.admits name.now }
     requires ready { JoinerIsReady joiner.old }
     ensures read { FileRead (F.state folder.old).files name.now joiner.old joiner.new result }
-    ensures folder { ReadsFrom (F.state folder.old) (F.state folder.new)
-        (status_of (run_outcome result) == 3) }
+    ensures folder { ReadsFiles (F.state folder.old) (F.state folder.new)
+        (failed_file (run_outcome result)) }
 {
     let Ok(()) = folder.select(name) else {
         return Err(Stop::Folder { name });

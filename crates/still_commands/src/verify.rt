@@ -1,14 +1,14 @@
 //! The command `verify`.
-ghost use Rattle.std.specs.Prelude.{◌≡◌, ◌==◌, All, IfOk};
+ghost use Rattle.std.specs.Prelude.{◌≡◌, All, IfOk};
 ghost use Rattle.cost_vector.specs.Costs.{no_limit};
-ghost use Rattle.route_io.specs.Sources.{ReadsFrom};
+ghost use Rattle.route_io.specs.Sources.{ReadsFiles};
 ghost use Rattle.walk_readback.specs.Found.{IsWellFound};
 ghost use Rattle.cert_rules.specs.Certificates.{IsCertificate};
 ghost use Rattle.front_cert.specs.Found.{found_of};
 ghost use Rattle.front_cert.specs.Listing.{IsListingOf};
 ghost use Rattle.command_words.specs.Words.{names_of_still};
 ghost use Rattle.command_words.specs.declared.commands.StillCommand.TheVariants.{Verify};
-ghost use Rattle.still_commands.specs.Outcome.{status_of};
+ghost use Rattle.still_commands.specs.Outcome.{failed_file};
 ghost use Rattle.still_commands.specs.Output.{RunsCommand, StillEnds};
 ghost use Rattle.still_commands.specs.ReadResults.{CertRead};
 ghost use Rattle.still_commands.specs.Stops.{Replies, run_outcome};
@@ -57,8 +57,8 @@ fn read_cert<'a, F: Folder>(
     ensures well_found { IfOk result (λ listing.
         IsWellFound network.now (no_limit network.now.criteria) (found_of listing)) }
     ensures read { CertRead (F.state folder.old).files network.now name.now result }
-    ensures folder { ReadsFrom (F.state folder.old) (F.state folder.new)
-        (status_of (run_outcome result) == 3) }
+    ensures folder { ReadsFiles (F.state folder.old) (F.state folder.new)
+        (failed_file (run_outcome result)) }
 {
     let Ok(()) = folder.select(name) else {
         return Err(Stop::Folder { name });

@@ -1,4 +1,4 @@
-ghost use Rattle.std.specs.Prelude.{◌≡◌, ◌≤◌, ◌<◌, ◌++◌, ◌∷◌, [], length, reverse, IfOk, OnOk};
+ghost use Rattle.std.specs.Prelude.{◌≡◌, ◌≤◌, ◌<◌, ◌++◌, ◌∷◌, [], length, max, reverse, IfOk, OnOk};
 
 use cost_vector::ArcNo;
 use out_of_memory::OutOfMemory;
@@ -30,12 +30,13 @@ impl Room {
         Ok(Room { arcs })
     }
 
-    /// Makes room for walks of at most so many arcs. The walk that was there is gone.
+    /// Makes room for walks of at most so many arcs, and no more than that where it has to grow. The walk that was there is gone.
     pub fn make_room(&mut self, longest: u32) -> Result<(), OutOfMemory>
-        ensures { OnOk result (longest ≤ self.new.holds) }
+        ensures room { OnOk result (longest ≤ self.new.holds) }
+        ensures no_more { self.new.holds ≤ max self.old.holds longest }
     {
         self.arcs.clear();
-        self.arcs.reserve(longest as usize)?;
+        self.arcs.reserve_exact(longest as usize)?;
         Ok(())
     }
 

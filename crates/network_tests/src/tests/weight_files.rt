@@ -1,9 +1,9 @@
 ghost use Rattle.std.specs.Prelude.{◌≡◌, ◌<◌, ◌+◌, OnOk};
 
-use super::feeds::{failing, left_in, pieces, source_of};
+use super::feeds::{pieces, source_of};
 use super::files::{FileForm, WIDE, assert_cuts, assert_limited, assert_rows};
 use arc_graph::{ArcFile, Joiner};
-use gr_reader::{FileFault, RecordLines, Sizes, WeightFiles, read_into};
+use gr_reader::{FileFault, read_into};
 use std::alloc::{AllocError, Global};
 use std::test::Fail;
 
@@ -118,26 +118,6 @@ const CUTS: &[(usize, usize, &str)] = &[
 #[test]
 fn cut_files(rt: HostRuntime) {
     assert_cuts(&rt, rt.alloc(), SIX_ARCS, CUTS, FileForm::Weights);
-}
-
-/// Whether the sizes come, and then twice the fault of a read that fails; and how many bytes are left.
-fn fault_twice(alloc: Global) -> Result<([bool; 3], usize), AllocError> {
-    let mut source = source_of(alloc, failing(b"p sp 2 1\na 1 2 5\n", 1, &[14]))?;
-    let Ok(mut lines) = RecordLines::<WeightFiles>::new(alloc, WIDE) else {
-        return Err(AllocError);
-    };
-    let sizes = lines.begin(&mut source) == Ok(Sizes { nodes: 2, arcs: 1 });
-    let first = lines.next_record(&mut source) == Err(FileFault::Read);
-    let again = lines.next_record(&mut source) == Err(FileFault::Read);
-    Ok(([sizes, first, again], left_in(&mut source)))
-}
-
-#[test]
-fn an_end_is_answered_again(rt: HostRuntime) {
-    assert!(rt;
-        fault_twice(rt.alloc()) == Ok(([true; 3], 3)),
-        "the fault of a read is kept"
-    );
 }
 
 /// Hands the joiner the file of a text that comes in pieces of this length.

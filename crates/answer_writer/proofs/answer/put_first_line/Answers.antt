@@ -1,12 +1,24 @@
 use Rattle.std.proofs.Common.{◌++◌, subst}
-use Rattle.answer_writer.specs.Pages.{Holds}
+use Rattle.std.proofs.lemmas.Result.{err_from_is_err_and}
+use Rattle.answer_writer.specs.Pages.{Cuts, Holds}
 use Rattle.answer_writer.specs.Replies.{first_line}
-use Rattle.answer_writer.proofs.GathersLemmas.{Sends-held}
+use Rattle.answer_writer.proofs.GathersLemmas.{Sends-held, one_write_cut, one_write_held}
 use Rattle.answer_writer.proofs.answer.put_first_line.Goals as goal
+
+pub returns-in_err-put_first_line : goal.returns-in_err-put_first_line
+returns-in_err-put_first_line g c =
+    let p = err_from_is_err_and c.from_residual.result c.from_residual.ensures.1 in
+    let text = first_line c.args.epoch c.args.query.now c.args.count in
+    let cut = subst (λ page. Cuts (g.K.Sink.state c.args.sink.now) (g.K.Sink.state c.put_first_line.new.sink) (page ++ text) c.in_err-put_first_line.field-0.0)
+    c.new-page.ensures c.in_err-put_first_line.ensures in
+    record { sent = rw (p.1, p.2) cut.sends; one_write = one_write_cut _ _ text _ cut }
 
 pub returns : goal.returns
 returns g c =
     let text = first_line c.args.epoch c.args.query.now c.args.count in
     let held = subst (λ page. Holds (g.K.Sink.state c.args.sink.now) (g.K.Sink.state c.put_first_line.new.sink) (page ++ text) c.put_first_line.new.self)
     c.new-page.ensures c.in_ok-put_first_line.ensures in
-    Sends-held _ _ _ text c.put_first_line.new.self c.send.result held c.send.ensures.sent
+    record {
+      sent = Sends-held _ _ _ text c.put_first_line.new.self c.send.result held c.send.ensures.sent;
+      one_write = one_write_held _ _ _ text c.put_first_line.new.self held c.send.ensures.whole;
+    }

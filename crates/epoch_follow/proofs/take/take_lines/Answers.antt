@@ -25,7 +25,7 @@ lines-init g c =
       knows_end = λ ended. absurd (let both : true ≡ false = sym ended ∙ ap (λ (l : Lines). l.ended) begun in cc);
       awaits = c.requires.nothing_pending;
       begins = prefix_self old;
-      source = record { cause = refl; files = refl };
+      source = record { cause = refl; files = refl; selected = refl };
       known = subst Known (sym begun) (known_begun head total old left);
     }
 
@@ -78,7 +78,7 @@ lines-preserved g c =
       knows_end = reads.knows_end;
       awaits = tells.1;
       begins = prefix_trans _ _ _ so_far.begins c.take.ensures.begins;
-      source = record { cause = source.cause ∙ so_far.source.cause; files = source.files ∙ so_far.source.files };
+      source = record { cause = source.cause ∙ so_far.source.cause; files = source.files ∙ so_far.source.files; selected = source.selected ∙ so_far.source.selected };
       known = goes_on head c.args.lines.limits.total c.args.operator.now.published c.lines.lines c.lines.operator c.lines.due so_far.limits
           (state c.args.source.now).left c.lines.lines.held (state c.lines.source).left so_far.known
           c.next_line.new.lines reads.in_limits reads.limits (state c.next_line.new.source).left reads.tells

@@ -1,17 +1,14 @@
-use Rattle.std.proofs.Common.{false}
-use Rattle.route_io.specs.Sources.{ReadsFrom}
-use Rattle.line_text.specs.Reading.{begun}
-use Rattle.gr_reader.specs.Reader.{TakesBytes}
-use Rattle.gr_reader.proofs.HasComeLemmas.{HasCome, records_left}
+use Rattle.std.proofs.Common.{◌-◌, ℕ, List}
+use Rattle.line_text.specs.Texts.{HasCome}
+use Rattle.gr_reader.specs.Steps.{HasLines}
 use Rattle.gr_reader.proofs.read.read_records.Given as goal
 
-abbrev pub invariant-records : goal.invariant-records
-invariant-records g l = record {
-  come : HasCome g.G.Grammar.rules l.fn.limits l.lines (g.S.Source.state l.fn.source) (g.S.Source.state l.source)
-      (g.K.RecordSink.has_taken l.fn.sink l.sink);
-  takes : TakesBytes (begun l.fn.limits) l.lines.lines (g.S.Source.state l.fn.source) (g.S.Source.state l.source);
-  source : ReadsFrom (g.S.Source.state l.fn.source) (g.S.Source.state l.source) false;
+abbrev pub invariant-lines : goal.invariant-lines
+invariant-lines g l = record {
+  texts : List (List ℕ);
+  come : HasCome l.fn.limits (g.S.Source.state l.fn.source) (g.S.Source.state l.source) l.lines texts;
+  has : HasLines g.G.Grammar.rules g.K.RecordSink.has_taken l.fn.sink l.sink texts l.begun;
 }
 
-abbrev pub decreases-records : goal.decreases-records
-decreases-records g l = records_left g.G.Grammar.rules l.lines.stage
+abbrev pub decreases-lines : goal.decreases-lines
+decreases-lines g l = l.lines.limits.total - l.lines.passed

@@ -2,7 +2,7 @@ use Rattle.std.proofs.Common.{◌≡◌, ◌<◌, ◌≤◌, ◌++◌, ◌∷◌
 use Rattle.std.proofs.lemmas.List.{take_all}
 use Rattle.std.proofs.lemmas.Result.{err_from_is_err_and}
 use Rattle.std.specs.List.{AllZip}
-use Rattle.route_io.proofs.ReadsLemmas.{ReadsFrom-then}
+use Rattle.route_io.proofs.ReadsLemmas.{ReadsFiles-then}
 use Rattle.route_top.specs.Follow.{numbered}
 use Rattle.route_top.specs.Lanes.{SaysScript, starved}
 use Rattle.route_top.proofs.LaneScripts.{one_script_more, stops_at}
@@ -53,6 +53,6 @@ loop-place-preserved g c =
     let grown : c.push.new.self.items ≡ c.loop-place.all.items ++ bytes ∷ [] = search rules in
     let says = rw (numbered_at stem c.args.count n inside, c.loop-place.invariant.folder.files) at c.in_ok-bytes.ensures.read in
     let all = one_script_more _ names n within _ c.loop-place.invariant.read bytes says in record {
-      folder = ReadsFrom-then _ _ _ _ c.loop-place.invariant.folder c.in_ok-bytes.ensures.folder;
+      folder = ReadsFiles-then _ _ _ _ c.loop-place.invariant.folder c.in_ok-bytes.ensures.folder;
       read = subst (AllZip (SaysScript (g.F.Source.state c.args.folder.now).files) (take (n + 1) names)) (sym grown) all;
     }

@@ -6,7 +6,7 @@ use Rattle.std.specs.List.{All, AllZip}
 use Rattle.route_io.specs.declared.link.Link.{Link}
 use Rattle.route_io.specs.declared.sure.SureSource.{SureSource}
 use Rattle.route_io.specs.declared.sure.SureSink.{SureSink}
-use Rattle.route_io.proofs.ReadsLemmas.{ReadsFrom-then}
+use Rattle.route_io.proofs.ReadsLemmas.{ReadsFiles-then}
 use Rattle.command_words.specs.Words.{scripts_of}
 use Rattle.route_top.specs.Lanes.{SaysScript, starved}
 use Rattle.route_top.proofs.LaneScripts.{count_scripts, one_script_more, stops_at}
@@ -60,7 +60,7 @@ loop-number-preserved g c =
     ap (λ b. map (λ l. l.from) links ++ b ∷ []) (sym c.link_of.ensures.from) ∙ sym (ap (map (λ l. l.from)) grown ∙ map-append (λ l. l.from) links (link ∷ [])) in
     let unsent = All-append IsUnsent links (link ∷ []) c.loop-number.invariant.unsent (All-cons IsUnsent link [] c.link_of.ensures.to (All-nil IsUnsent)) in
     record {
-      folder = ReadsFrom-then _ _ _ _ c.loop-number.invariant.folder c.in_ok-bytes.ensures.folder;
+      folder = ReadsFiles-then _ _ _ _ c.loop-number.invariant.folder c.in_ok-bytes.ensures.folder;
       read = subst (AllZip (SaysScript (g.F.Source.state c.args.folder.now).files) (take (c.loop-number.number + 1) names)) same all;
       unsent = subst (All IsUnsent) (sym grown) unsent;
     }

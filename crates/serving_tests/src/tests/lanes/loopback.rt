@@ -33,17 +33,17 @@ const ADDRESSES: [Addresses; 3] = [
 /// How many seconds a peer waits for a reply.
 const PATIENCE: u64 = 20;
 
-/// The answer to the query from 1 to 4 over the six arcs.
-const ANSWER: &[u8] = b"r 0 1 4 2\nv 2 8\nv 4 2\n";
+/// A session is refused an operator's line, and then has its answer to the query from 1 to 4 over the six arcs.
+const ANSWER: &[u8] = b"x line\nr 1 1 4 2\nv 2 8\nv 4 2\n";
 
-/// Two doors that listen, of one link each, and their addresses.
+/// Doors that listen, of one link each, for an operator and two lanes of sessions, and their addresses.
 fn listen<R: Net<Listener = TcpListener, Stream = TcpStream> + Files>(
     rt: &R,
     alloc: Global,
 ) -> Option<(Vec<HostDoor>, Addresses)> {
     for addresses in ADDRESSES {
         let mut town = HostTown::new(alloc, rt);
-        if let Ok(doors) = town.listen(addresses.1, addresses.0, 1, 1) {
+        if let Ok(doors) = town.listen(addresses.1, addresses.0, 2, 1) {
             return Some((doors, addresses));
         }
     }
@@ -66,14 +66,16 @@ fn is_replied<R: Net<Listener = TcpListener, Stream = TcpStream> + Files>(
     Ok(*part == *reply && stream.read(rest)? == 0)
 }
 
-/// The operator says nothing, and then a session asks, whatever became of the operator: so each door has its link.
+/// One session is silent until the others have gone. The operator is refused a session's line and publishes, and then the
+/// other session asks, whatever became of those before: so each door has its link.
 fn visit<R: Net<Listener = TcpListener, Stream = TcpStream> + Files>(
     rt: &R,
     addresses: Addresses,
 ) -> io::Result<bool> {
-    let operator = is_replied(rt, addresses.0, b"bye\n", b"");
-    let session = is_replied(rt, addresses.1, b"c 1 4\nbye\n", ANSWER);
-    Ok(operator? && session?)
+    let silent = TcpStream::connect(rt, addresses.1);
+    let operator = is_replied(rt, addresses.0, b"e\npublish\nbye\n", b"x line\nk 1\n");
+    let session = is_replied(rt, addresses.1, b"publish\nc 1 4\nbye\n", ANSWER);
+    Ok(silent.is_ok() && operator? && session?)
 }
 
 /// Serves the doors while peers visit their addresses, and tells what became of the doors, and whether the peers had their

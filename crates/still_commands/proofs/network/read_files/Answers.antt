@@ -1,6 +1,6 @@
 use Rattle.std.proofs.Common.{◌∙◌, arith, sym}
 use Rattle.std.proofs.lemmas.Result.{err_from_is_err_and}
-use Rattle.route_io.proofs.ReadsLemmas.{ReadsFrom-then}
+use Rattle.route_io.proofs.ReadsLemmas.{ReadsFiles-then}
 use Rattle.still_commands.proofs.FilesReadLemmas.{has_all, next_of, reads_more, stopped_at}
 use Rattle.still_commands.proofs.network.read_files.Goals as goal
 
@@ -19,7 +19,7 @@ pub loop-name-preserved : goal.loop-name-preserved
 loop-name-preserved g c = record {
   begun = omega (arith, c.in_ok-read_file.ensures.read.taken.begun);
   whole = c.in_ok-read_file.ensures.read.taken.come ∙ sym c.in_ok-read_file.ensures.read.taken.due;
-  folder = ReadsFrom-then _ _ _ _ c.loop-name.invariant.folder c.in_ok-read_file.ensures.folder;
+  folder = ReadsFiles-then _ _ _ _ c.loop-name.invariant.folder c.in_ok-read_file.ensures.folder;
   read = reads_more _ c.args.names.now c.loop-name.name-index _ c.loop-name-test.true _ _ c.loop-name.invariant.folder.files c.loop-name.joiner
       c.loop-name.invariant.read c.read_file.new.joiner c.in_ok-read_file.ensures.read;
 }

@@ -1,5 +1,5 @@
-use Rattle.std.proofs.Common.{◌≡◌, false, map, take}
-use Rattle.route_io.specs.Sources.{ReadsFrom}
+use Rattle.std.proofs.Common.{◌≡◌, None, map, take}
+use Rattle.route_io.specs.Sources.{ReadsFiles}
 use Rattle.still_commands.specs.ReadResults.{HasRead}
 use Rattle.still_commands.proofs.network.read_files.Given as goal
 
@@ -8,6 +8,6 @@ abbrev pub invariant-loop-name : goal.invariant-loop-name
 invariant-loop-name g l = record {
   begun : l.joiner.begun ≡ l.name-index;
   whole : l.joiner.come ≡ l.joiner.due_arcs;
-  folder : ReadsFrom (g.F.Source.state l.fn.folder) (g.F.Source.state l.folder) false;
+  folder : ReadsFiles (g.F.Source.state l.fn.folder) (g.F.Source.state l.folder) None;
   read : HasRead (g.F.Source.state l.fn.folder).files (take l.name-index (map (λ name. name.now) l.names)) l.joiner;
 }

@@ -9,4 +9,4 @@ pub returns-in-Ends : goal.returns-in-Ends
 returns-in-Ends g c =
     let same = regroup (decimal c.from-in-Ends.result) (codes " file") (and_number c.from-in-Ends-2.result) end_line in
     rw (c.in-Ends.is, ← c.from-in-Ends.ensures, ← c.from-in-Ends-2.ensures, same)
-    c.put_line-in-Ends.ensures
+    c.put_line-in-Ends.ensures.sent

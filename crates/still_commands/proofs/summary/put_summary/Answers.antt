@@ -11,4 +11,4 @@ returns g c =
     let s = c.args.summary.now in
     let same = regroup (decimal s.nodes) (and_number s.arcs) (and_number s.criteria) (and_number s.pairs) (and_number s.answered)
     (and_number s.passed) (and_number s.costs) (and_number s.walk_arcs) (and_number s.total) end_line in
-    rw same c.put_line.ensures
+    rw same c.put_line.ensures.sent

@@ -17,7 +17,7 @@ returns-in_err-put_answer g c =
     let net = c.args.network.now in
     let cert = c.args.listing.now.cert in
     let (routes, answer, has) = its_answer net c.nodes.ensures.network.network cert in
-    let sends = rw c.query_of-query.ensures at c.in_err-put_answer.ensures in
+    let sends = rw c.query_of-query.ensures at c.in_err-put_answer.ensures.sent in
     rw (p.1, p.2) (replies_so (CertReplies net cert) done _ _ _ _ has (sent_part done _ _ _ _ (sends routes answer)))
 
 pub returns : goal.returns
@@ -25,5 +25,5 @@ returns g c =
     let net = c.args.network.now in
     let cert = c.args.listing.now.cert in
     let (routes, answer, has) = its_answer net c.nodes.ensures.network.network cert in
-    let sends = rw c.query_of-query.ensures at c.in_ok-put_answer.ensures in
+    let sends = rw c.query_of-query.ensures at c.in_ok-put_answer.ensures.sent in
     replies_so (CertReplies net cert) done _ _ _ _ has (sent_done _ _ _ (sends routes answer))

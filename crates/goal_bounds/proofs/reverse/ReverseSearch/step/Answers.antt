@@ -2,7 +2,7 @@ use Rattle.std.proofs.Common.{◌≡◌, ◌∷◌, ◌<◌, ◌≤◌, length, 
 use Rattle.std.specs.Prelude.{All, IsPermutation}
 use Rattle.std.specs.BinaryHeap.{heap_items}
 use Rattle.std.proofs.lemmas.Result.{on_ok_weaker}
-use Rattle.goal_bounds.specs.Reverse.{GoesBack, IsReverse, Item, ReverseSearch}
+use Rattle.goal_bounds.specs.Reverse.{GoesBack, IsReverse, Item, ReverseSearch, value_at}
 use Rattle.goal_bounds.proofs.ReverseLemmas.{known_at_node, none_less, one_fewer, popped_at_node, popped_is_small, with_expanded, with_items, without_item}
 use Rattle.goal_bounds.proofs.reverse.ReverseSearch.step.Goals as goal
 
@@ -30,6 +30,15 @@ expand-requires-clause-node c =
     let s = c.args.self.now in let i = c.in-Some.field-0 in let items = heap_items c.pop.new.self in
     let taken = subst (λ (z : ReverseSearch). IsPermutation z.items (i ∷ items)) c.self.view_is c.in-Some.ensures.permutation in
     popped_at_node c.args.network.now c.nodes.ensures.network s.target s.criterion s c.requires i items taken
+
+pub expand-requires-clause-known : goal.expand-requires-clause-known
+expand-requires-clause-known c =
+    let road = c.nodes.ensures.network in let s = c.args.self.now in let i = c.in-Some.field-0 in let items = heap_items c.pop.new.self in
+    let taken = subst (λ (z : ReverseSearch). IsPermutation z.items (i ∷ items)) c.self.view_is c.in-Some.ensures.permutation in
+    let node = popped_at_node c.args.network.now road s.target s.criterion s c.requires i items taken in
+    let read = known_at_node c.args.network.now s.target s.criterion s c.requires i.0.node.0 c.index.result.now node
+    (subst (λ (z : ReverseSearch). c.index.result.now ≡ get_or z.values i.0.node.0 c.index.result.now) c.self.view_is c.index.ensures) in
+    subst (λ z. i.0.value ≡ value_at z i.0.node.0) (sym c.self.view_is) (sym c.if-index-least.false ∙ read)
 
 pub expand-requires-clause-room : goal.expand-requires-clause-room
 expand-requires-clause-room c =

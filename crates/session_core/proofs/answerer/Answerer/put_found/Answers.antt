@@ -15,7 +15,7 @@ returns-in_err-put_first_line g c = λ routes answer.
     let whole = whole_reply net (g.F.FoundCosts.state c.args.found.now) c.count-count.ensures.found routes its c.args.kind c.args.epoch c.args.query.now c.count-count.result c.count-count.ensures.value in
     rw (p.1, p.2) (subst (λ t. Sends {T = Unit {0}} (g.K.Sink.state c.args.out.now) (g.K.Sink.state c.put_first_line.new.sink) t (Err c.in_err-put_first_line.field-0.0)) whole
     (Sends-cut (g.K.Sink.state c.args.out.now) (g.K.Sink.state c.put_first_line.new.sink) (first_line c.args.epoch c.args.query.now c.count-count.result)
-    (lines_between c.args.kind routes 0 c.count-count.result) c.in_err-put_first_line.field-0.0 c.in_err-put_first_line.ensures))
+    (lines_between c.args.kind routes 0 c.count-count.result) c.in_err-put_first_line.field-0.0 c.in_err-put_first_line.ensures.sent))
 
 pub returns : goal.returns
 returns g c = λ routes answer.
@@ -25,4 +25,4 @@ returns g c = λ routes answer.
     subst (λ t. Sends (g.K.Sink.state c.args.out.now) (g.K.Sink.state c.put_windows.new.out) t c.put_windows.result) whole
     (Sends-then (g.K.Sink.state c.args.out.now) (g.K.Sink.state c.put_first_line.new.sink) (g.K.Sink.state c.put_windows.new.out)
     (first_line c.args.epoch c.args.query.now c.count-count.result) (lines_between c.args.kind routes 0 c.count-count.result) c.put_windows.result
-    c.in_ok-put_first_line.ensures (rw c.count-count.ensures.value (c.put_windows.ensures routes its)))
+    c.in_ok-put_first_line.ensures.sent (rw c.count-count.ensures.value (c.put_windows.ensures routes its)))

@@ -12,7 +12,7 @@ loop-made-preserved g c = λ routes its.
     let w = c.args.self.now in
     piece_sent w.network.now _ w.kind w.from w.to c.args.texts.now c.requires.texts c.requires.whole routes its
     (g.K.Sink.state c.args.out.now) (g.K.Sink.state c.loop-made.out) (g.K.Sink.state c.put_all.new.sink) c.loop-made.made-index c.made-item.result
-    c.text_of.result.now c.loop-made-test.true c.made-item.is c.text_of.ensures (c.loop-made.invariant routes its) c.in_ok-put_all.ensures
+    c.text_of.result.now c.loop-made-test.true c.made-item.is c.text_of.ensures (c.loop-made.invariant routes its) c.in_ok-put_all.ensures.sent
 
 pub returns-in_err-put_all : goal.returns-in_err-put_all
 returns-in_err-put_all g c = λ routes its.
@@ -20,7 +20,7 @@ returns-in_err-put_all g c = λ routes its.
     let p = err_from_is_err_and c.from_residual.result c.from_residual.ensures.1 in
     rw (p.1, p.2) (piece_cut w.network.now _ w.kind w.from w.to c.args.texts.now c.requires.texts c.requires.whole routes its
     (g.K.Sink.state c.args.out.now) (g.K.Sink.state c.loop-made.out) (g.K.Sink.state c.put_all.new.sink) c.loop-made.made-index c.made-item.result
-    c.text_of.result.now c.loop-made-test.true c.made-item.is c.text_of.ensures (c.loop-made.invariant routes its) _ c.in_err-put_all.ensures)
+    c.text_of.result.now c.loop-made-test.true c.made-item.is c.text_of.ensures (c.loop-made.invariant routes its) _ c.in_err-put_all.ensures.sent)
 
 pub returns : goal.returns
 returns g c = λ routes its.

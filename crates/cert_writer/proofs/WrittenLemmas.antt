@@ -15,7 +15,7 @@ use Rattle.list_laws.proofs.Pairs.{pair_with_first, pairs_rest}
 use Rattle.line_text.specs.Fields.{fields_of}
 use Rattle.line_text.specs.Lines.{lines_of, without_cr}
 use Rattle.line_text.specs.Marks.{fault_of_marks, line_fault}
-use Rattle.line_text.specs.Numerals.{is_digits, value_of}
+use Rattle.line_text.specs.Numerals.{is_digits, number_in, value_of}
 use Rattle.line_text.proofs.WrittenLineLemmas.{IsField, IsLineText, behind_blank, decimal_field, fields_of-line, is_digits-decimal, line_of_fields, line_text, lines_of-line, one_byte, value_of-decimal, without_cr-same}
 use Rattle.cost_vector.specs.Costs.{lex_cmp, no_limit}
 use Rattle.cost_vector.proofs.Vectors.{LexLess-irrefl}
@@ -34,7 +34,8 @@ use Rattle.front_cert.specs.Reads.{ChecksText}
 use Rattle.front_cert.specs.declared.fault.CertFault.{CertFault}
 use Rattle.front_cert.specs.declared.fault.CertFault.TheVariants.{Line, Rule, Read, OutOfMemory}
 use Rattle.front_cert.proofs.LookupLemmas.{before_trans}
-use Rattle.front_cert.specs.Text.{Draft, State, behind_line, begun_draft, cert_limits, components, follows, heading_from, label_from, last_label, number_in, or_fault, read_lines, read_text, size_in, stands_before, with_label, with_line}
+use Rattle.line_text.specs.Texts.{size_in}
+use Rattle.front_cert.specs.Text.{Draft, State, behind_line, begun_draft, cert_limits, components, follows, heading_from, label_from, last_label, or_fault, read_lines, read_text, stands_before, with_label, with_line}
 use Rattle.cert_writer.specs.Text.{Accepts, cert_text, heading_line, label_line}
 
 -- ---- lines of short fields

@@ -8,7 +8,7 @@ use Rattle.std.specs.Option.{option_and_then, option_map}
 use Rattle.std.proofs.lemmas.Bool.Decides.{nat_tests}
 use Rattle.std.proofs.lemmas.List.{append-nil, length-map}
 use Rattle.std.proofs.lemmas.List.Elements.{All-append, All-cons, All-nil}
-use Rattle.line_text.specs.Numerals.{is_digits, value_of}
+use Rattle.line_text.specs.Numerals.{FirstIn, front_in, is_digits, number_in, value_of}
 use Rattle.cost_vector.specs.declared.label.Label.{Label as StoredLabel}
 use Rattle.list_laws.proofs.Members.{all_from_in, each_in, of_map}
 use Rattle.list_laws.proofs.Pairs.{pairs_map}
@@ -17,8 +17,8 @@ use Rattle.cert_rules.specs.Certificates.{IsBefore, IsCertificate, IsLine, max_c
 use Rattle.front_cert.specs.declared.draft.Draft.{Draft as KeptDraft}
 use Rattle.front_cert.specs.Listing.{line_of}
 use Rattle.front_cert.specs.Lookup.{Precedes}
-use Rattle.front_cert.specs.Reads.{FirstIn, IsDraft, draft_of, front_in}
-use Rattle.front_cert.specs.Text.{Draft, begun_draft, components, follows, heading_from, is_word, last_label, number_in}
+use Rattle.front_cert.specs.Reads.{IsDraft, draft_of}
+use Rattle.front_cert.specs.Text.{Draft, begun_draft, components, follows, heading_from, is_word, last_label}
 
 -- a draft with all its labels is a certificate
 pub is_certificate : (net : Network) (d : KeptDraft) → IsDraft net d → IsCertificate net (draft_of d).cert

@@ -1,5 +1,5 @@
 -- The labels of a certificate as settled pairs.
-use Rattle.std.proofs.Common.{◌≡◌, ◌≢◌, ℕ, ◌+◌, ◌-◌, ◌<◌, ◌≤◌, Bool, true, false, List, [], ◌∷◌, ◌++◌, length, map, take, drop, get_or, inl, inr, refl, sym, ap, ap₂, subst, ◌∙◌, ◌⊎◌, ◌↔◌, arith, length-take}
+use Rattle.std.proofs.Common.{◌≡◌, ◌≢◌, ℕ, ◌+◌, ◌-◌, ◌<◌, ◌≤◌, Bool, true, false, List, [], ◌∷◌, ◌++◌, length, map, take, drop, get_or, inl, inr, refl, sym, ap, ap₂, subst, ◌∙◌, ◌↔◌, arith, length-take}
 use Rattle.std.proofs.lemmas.List.{length-map}
 use Rattle.std.specs.Prelude.{◌==◌, Option, Some, None, is_some, nat_eq, nat_lt, cond, All, AllPairs, Contains, slice_get}
 use Rattle.std.specs.List.{filter}
@@ -13,18 +13,18 @@ use Rattle.std.proofs.lemmas.List.Kept.{AllPairs-filter}
 use Rattle.cost_vector.specs.Costs.{LexLess, no_limit}
 use Rattle.cost_vector.specs.declared.label.ArcNo.{ArcNo}
 use Rattle.cost_vector.specs.declared.label.Label.{Label as StoredLabel}
-use Rattle.cost_vector.proofs.Vectors.{AtMost-refl, LexLess-irrefl, Within-no_limit, cases_same}
+use Rattle.cost_vector.proofs.Vectors.{LexLess-irrefl, Within-no_limit}
 use Rattle.list_laws.proofs.Members.{in_filter, in_map, of_filter, of_map}
 use Rattle.list_laws.proofs.Pairs.{pairs_map}
 use Rattle.road_network.specs.Labels.{Label}
-use Rattle.cert_rules.specs.Certificates.{IsBeaten, IsBefore, IsListed}
+use Rattle.cert_rules.specs.Certificates.{IsBefore, IsListed}
 use Rattle.cert_rules.proofs.ListedLaws.{one_label}
 use Rattle.cert_rules.specs.Meaning.{ShowsAnswer}
 use Rattle.list_laws.proofs.OnceLaws.{alike_through}
 use Rattle.road_network.specs.Best.{IsBest}
 use Rattle.road_network.specs.Network.{Network, IsNetwork}
 use Rattle.road_network.proofs.WalkLaws.{length_of_walk}
-use Rattle.walk_readback.specs.Found.{IsCovered, IsFound, IsWellFound}
+use Rattle.walk_readback.specs.Found.{IsFound, IsWellFound}
 use Rattle.front_cert.specs.Found.{costs_of, found_of}
 use Rattle.front_cert.specs.Listing.{Listing, IsKept, line_of}
 use Rattle.front_cert.specs.Lookup.{Precedes}

@@ -1,17 +1,16 @@
 -- What is read of the rest of a text, from its first line on.
-use Rattle.std.proofs.Common.{◌≡◌, ℕ, ◌+◌, ◌-◌, ◌<◌, ◌≤◌, cond, min, List, [], ◌∷◌, Option, Some, None, is_none, true, false, Bool, Result, Ok, Err, length, refl, sym, ap, ◌∙◌, arith, length-drop}
-use Rattle.std.specs.Prelude.{IfNone, IfSome, IsSomeAnd, if◌then◌else◌, nat_lt}
+use Rattle.std.proofs.Common.{◌≡◌, ℕ, ◌+◌, ◌<◌, ◌≤◌, cond, List, ◌∷◌, Option, Some, None, is_none, true, false, Bool, Result, Ok, Err, length, refl, sym, ap, subst, ◌∙◌, arith}
+use Rattle.std.specs.Prelude.{IfSome, IsSomeAnd, if◌then◌else◌, nat_lt}
 use Rattle.std.proofs.lemmas.Bool.{lt-ltb}
 use Rattle.std.proofs.lemmas.Bool.Decides.{nat_tests}
-use Rattle.std.proofs.lemmas.Option.{MatchOption-at_none}
-use Rattle.route_io.specs.Sources.{SourceState}
 use Rattle.line_text.specs.declared.limits.LineFault.{LineFault}
 use Rattle.line_text.specs.declared.limits.LineFault.TheVariants as lines
 use Rattle.line_text.specs.Fields.{fields_of}
-use Rattle.line_text.specs.Lines.{first_lf, raw_line, after_line, line_size, without_cr, lines_of}
-use Rattle.line_text.specs.Marks.{line_fault, first_fault, line_answer, answer_of}
-use Rattle.line_text.specs.Reading.{Lines, Advances, Counts, TakesLine, Tells}
-use Rattle.line_text.proofs.LineLemmas.{first_lf-le, length-raw_line, lines_of-first}
+use Rattle.line_text.specs.Lines.{raw_line, after_line, line_size, without_cr, lines_of}
+use Rattle.line_text.specs.Marks.{line_fault, first_fault, answer_of}
+use Rattle.line_text.specs.Reading.{Lines, Counts, TakesLine, Tells}
+use Rattle.line_text.proofs.LineLemmas.{lines_of-first}
+use Rattle.line_text.proofs.TextLemmas.{IfSome_through, broken, length-rest, none_left, size_in-rest, unbroken}
 use Rattle.road_network.specs.Network.{Network}
 use Rattle.cert_rules.specs.Certificates.{Certificate}
 use Rattle.front_cert.specs.Reads.{HasLine, NextTells, ReadsText, at, from_line, known_as}
@@ -19,50 +18,10 @@ use Rattle.front_cert.specs.Listing.{Listing}
 use Rattle.front_cert.specs.declared.fault.CertFault.TheVariants.{Line}
 use Rattle.front_cert.specs.Text.{Draft, State, cert_limits, or_fault, read_lines, read_rest, read_text, size_in, whole, with_line}
 
-size_in-rest : (passed : ℕ) (rest : List ℕ) → size_in (passed + length rest) passed (raw_line rest) ≡ line_size rest
-size_in-rest passed rest =
-    let e : passed + length rest - passed ≡ length rest = omega arith in
-    ap (min (length (raw_line rest) + 1)) e
-
--- the bytes of the first line and those behind it are all
-length-rest : (rest : List ℕ) → length rest ≡ line_size rest + length (after_line rest)
-length-rest rest = omega (arith, length-raw_line rest, first_lf-le rest, length-drop (first_lf rest + 1) rest)
-
-line-unbroken : (fault : Option LineFault) → line_answer fault ≡ Ok true → fault ≡ None
-line-unbroken None e = refl
-line-unbroken (Some fault) e = absurd cc
-
-unbroken : (old : Lines) (rest : List ℕ) → old.limits ≡ cert_limits → answer_of old.limits old.passed rest ≡ Ok true
-    → line_fault cert_limits old.passed (length (raw_line rest)) (line_size rest) ≡ None
-unbroken old [] limits e = absurd cc
-unbroken old (byte ∷ rest) limits e =
-    ap (λ l. line_fault l old.passed (length (raw_line (byte ∷ rest))) (line_size (byte ∷ rest))) (sym limits)
-    ∙ line-unbroken (first_fault old.limits old.passed (byte ∷ rest)) e
-
-broken_by : (broken : Option LineFault) (fault : LineFault) → line_answer broken ≡ Err fault → broken ≡ Some fault
-broken_by None fault e = absurd cc
-broken_by (Some broken) fault e = cc
-
-broken_is : (old : Lines) (rest : List ℕ) (fault : LineFault) → old.limits ≡ cert_limits → answer_of old.limits old.passed rest ≡ Err fault
-    → (0 < length rest) × (line_fault cert_limits old.passed (length (raw_line rest)) (line_size rest) ≡ Some fault)
-broken_is old [] fault limits e = absurd cc
-broken_is old (byte ∷ rest) fault limits e = (
-  omega arith,
-  ap (λ l. line_fault l old.passed (length (raw_line (byte ∷ rest))) (line_size (byte ∷ rest))) (sym limits)
-      ∙ broken_by (first_fault old.limits old.passed (byte ∷ rest)) fault e,
-)
-
-at_end : (old : Lines) (rest : List ℕ) → answer_of old.limits old.passed rest ≡ Ok false → rest ≡ []
-at_end old [] e = refl
-at_end old (byte ∷ rest) e = by_answer (first_fault old.limits old.passed (byte ∷ rest)) e where
-  by_answer : (fault : Option LineFault) → line_answer fault ≡ Ok false → byte ∷ rest ≡ []
-  by_answer None e = absurd cc
-  by_answer (Some fault) e = absurd cc
-
--- what a call did to a reader of lines that kept no fault
-pub advanced : {old new : Lines} {before after : SourceState} {result : Result Bool LineFault} → old.fault ≡ None
-    → IfNone old.fault (Advances old new before after result) → Advances old new before after result
-advanced none advances = MatchOption-at_none _ _ none advances
+-- a line has this fault by the limits of a certificate's text
+by_limits : (old : Lines) (rest : List ℕ) (fault : Option LineFault) → old.limits ≡ cert_limits → first_fault old.limits old.passed rest ≡ fault
+    → line_fault cert_limits old.passed (length (raw_line rest)) (line_size rest) ≡ fault
+by_limits old rest fault limits e = subst (λ l. first_fault l old.passed rest ≡ fault) limits e
 
 module _ (net : Network) where
   -- what a line gives whose number, place, limits and fields are known
@@ -105,7 +64,7 @@ module _ (net : Network) where
           ∙ given_same _ (new.passed + length (after_line rest)) _ new.number _ new.passed _ None draft _ (fields_of new.text) (lines_of (after_line rest))
           (omega (arith, taken.passed, length-rest rest)) (sym number)
           (ap (λ n. old.passed + n) size ∙ sym taken.passed)
-          (ap (line_fault cert_limits old.passed (length (raw_line rest))) size ∙ unbroken old rest limits taken.answer)
+          (ap (line_fault cert_limits old.passed (length (raw_line rest))) size ∙ by_limits old rest None limits (unbroken old.limits old.passed rest taken.answer))
           (ap fields_of (sym taken.text))
           ∙ from_given new draft (after_line rest);
     }
@@ -114,18 +73,18 @@ module _ (net : Network) where
     breaks : (fault : LineFault) → new.number ≡ old.number → answer_of old.limits old.passed rest ≡ Err fault
         → (draft : Option Draft) → read_rest net (at old draft) rest ≡ Err (new.number + 1)
     breaks fault number answer draft =
-        let broken = broken_is old rest fault limits answer in
+        let broken = broken old.limits old.passed rest fault answer in
         ap (read_lines net (old.passed + length rest) (at old draft)) (lines_of-first rest broken.0)
         ∙ read_lines-cons (old.passed + length rest) (at old draft) (raw_line rest) (lines_of (after_line rest))
         ∙ given_same _ (old.passed + length rest) _ (new.number + 1) _ _ _ (Some fault) draft _ _ (lines_of (after_line rest))
         refl (ap (λ n. n + 1) (sym number)) refl
-        (ap (line_fault cert_limits old.passed (length (raw_line rest))) (size_in-rest old.passed rest) ∙ broken.1) refl
+        (ap (line_fault cert_limits old.passed (length (raw_line rest))) (size_in-rest old.passed rest) ∙ by_limits old rest (Some fault) limits broken.1) refl
         ∙ given_broken _ (new.number + 1) _ fault draft _ (lines_of (after_line rest))
 
     pub next_ok : (more : Bool) → Counts old new (Ok more) → Tells old new rest after (Ok more) → NextTells net old new rest after (Ok more)
     next_ok true counts tells = has_line counts.number tells
     next_ok false counts tells = λ draft.
-        ap (read_rest net (at old draft)) (at_end old rest tells.answer) ∙ ap (whole draft) (sym counts.0.number)
+        ap (read_rest net (at old draft)) (none_left old.limits old.passed rest tells.answer) ∙ ap (whole draft) (sym counts.0.number)
 
     pub next_err : (fault : LineFault) → Counts old new (Err fault) → Tells old new rest after (Err fault)
         → NextTells net old new rest after (Err (known_as fault (new.number + 1)))
@@ -135,19 +94,12 @@ module _ (net : Network) where
 
 -- ---- the end of the text
 
--- what is told of a rest that is known, and of what is left of it
-through : (known left : Option (List ℕ)) {P Q : List ℕ → Type 0} (S : List ℕ → List ℕ → Type 0) → IfSome known (λ rest. IsSomeAnd left (S rest))
-    → IfSome left P → ((rest more : List ℕ) → S rest more → P more → Q rest) → IfSome known Q
-through None left S skips known each = tt
-through (Some rest) None S skips known each = absurd skips
-through (Some rest) (Some more) S skips known each = each rest more skips known
-
 -- no line is left
 text_ends : (net : Network) (old new : Lines) (draft : Draft) (start rest after : Option (List ℕ))
     → IfSome start (λ bytes. IsSomeAnd rest (λ more. read_text net bytes ≡ read_rest net (at old (Some draft)) more))
     → IfSome rest (λ more. NextTells net old new more after (Ok false)) → IfSome start (λ bytes. read_text net bytes ≡ whole (Some draft) new.number)
 text_ends net old new draft start rest after known tells =
-    through start rest (λ bytes more. read_text net bytes ≡ read_rest net (at old (Some draft)) more) known tells (λ bytes more e ends. e ∙ ends (Some draft))
+    IfSome_through start rest (λ bytes more. read_text net bytes ≡ read_rest net (at old (Some draft)) more) known tells (λ bytes more e ends. e ∙ ends (Some draft))
 
 not_below : (a b : ℕ) → b ≤ a → nat_lt a b ≡ false
 not_below a b most = grind (arith, nat_tests)

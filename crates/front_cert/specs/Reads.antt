@@ -1,5 +1,5 @@
 -- What the reader of a certificate's text does at each step.
-use Rattle.std.specs.Prelude.{◌≡◌, ⊤, ℕ, ◌≤◌, Bool, true, false, List, [], ◌∷◌, length, map, All, AllPairs}
+use Rattle.std.specs.Prelude.{◌≡◌, ⊤, ℕ, ◌≤◌, Bool, true, false, List, length, map, All, AllPairs}
 use Rattle.std.specs.Prelude.{Option, Some, None, Result, Ok, Err}
 use Rattle.road_network.specs.Network.{Network, IsNode}
 use Rattle.line_text.specs.Fields.{fields_of}
@@ -13,18 +13,7 @@ use Rattle.front_cert.specs.declared.fault.CertFault.TheVariants.{Line, Rule, Re
 use Rattle.front_cert.specs.declared.draft.Draft.{Draft as KeptDraft}
 use Rattle.front_cert.specs.Listing.{Listing, line_of}
 use Rattle.front_cert.specs.Lookup.{Precedes}
-use Rattle.front_cert.specs.Text.{Draft, State, or_fault, read_rest, read_text, whole, with_line, number_in}
-
--- the number that the first of these fields writes, where it is in range
-abbrev pub front_in : ℕ → ℕ → List (List ℕ) → Option ℕ
-front_in least greatest [] = None
-front_in least greatest (field ∷ fields) = number_in least greatest field
-
--- The first of these fields writes this number, which is in range, and the others stand behind it.
-pub record FirstIn (least greatest : ℕ) (fields : List (List ℕ)) (number : ℕ) (others : List (List ℕ)) : Type 0 where
-  pub field : List ℕ
-  pub parts : fields ≡ field ∷ others
-  pub writes : number_in least greatest field ≡ Some number
+use Rattle.front_cert.specs.Text.{Draft, State, or_fault, read_rest, read_text, whole, with_line}
 
 -- a draft as it is kept
 abbrev pub draft_of : KeptDraft → Draft

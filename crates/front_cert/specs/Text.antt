@@ -1,5 +1,5 @@
 -- The text of a certificate: a first line `z D S T L`, and then L lines `b V A C1 .. CD`.
-use Rattle.std.specs.Prelude.{ℕ, zero, suc, ◌+◌, ◌-◌, ◌^◌, ◌==◌, ◌&&◌, ◌||◌, nat_eq, nat_le, nat_lt, min, if◌then◌else◌, Bool, true}
+use Rattle.std.specs.Prelude.{ℕ, zero, suc, ◌+◌, ◌-◌, ◌^◌, ◌==◌, ◌&&◌, ◌||◌, nat_eq, nat_lt, if◌then◌else◌, Bool, true}
 use Rattle.std.specs.Prelude.{List, [], ◌∷◌, ◌++◌, length, slice_get, codes, Option, Some, None, is_none, Result, Ok, Err}
 use Rattle.std.specs.Option.{option_and_then, option_map}
 use Rattle.std.specs.Ordering.{is_lt}
@@ -8,7 +8,8 @@ use Rattle.cost_vector.specs.Costs.{lex_cmp}
 use Rattle.line_text.specs.Fields.{fields_of}
 use Rattle.line_text.specs.Lines.{lines_of, without_cr}
 use Rattle.line_text.specs.Marks.{line_fault}
-use Rattle.line_text.specs.Numerals.{is_digits, value_of}
+pub use Rattle.line_text.specs.Numerals.{number_in}
+pub use Rattle.line_text.specs.Texts.{size_in}
 use Rattle.line_text.specs.declared.limits.LineLimits.{LineLimits}
 use Rattle.road_network.specs.Labels.{Label}
 use Rattle.road_network.specs.Network.{Network}
@@ -17,13 +18,6 @@ use Rattle.cert_rules.specs.Certificates.{Certificate, max_component, max_labels
 -- a line has at most 1,024 bytes, and the text 2^29
 abbrev pub cert_limits : LineLimits
 cert_limits = record { line = 1024; total = 2 ^ 29 }
-
--- the number that a field writes in digits, where it is from `least` to `greatest`
-abbrev pub number_in : ℕ → ℕ → List ℕ → Option ℕ
-number_in least greatest field =
-    if is_digits field && (nat_le least (value_of field) && nat_le (value_of field) greatest)
-    then Some (value_of field)
-    else None
 
 -- so many fields, each a component of a cost
 abbrev pub components : ℕ → List (List ℕ) → Option (List ℕ)
@@ -98,10 +92,6 @@ pub record State : Type 0 where
   pub draft : Option Draft
   pub number : ℕ
   pub passed : ℕ
-
--- how many bytes a line takes behind `passed` of so many in all: its LF is one of them, which the last line may lack
-abbrev pub size_in : ℕ → ℕ → List ℕ → ℕ
-size_in total passed line = min (length line + 1) (total - passed)
 
 -- what follows a line, or that it is faulty
 abbrev pub or_fault : ℕ → Option Draft → (Draft → Result Certificate ℕ) → Result Certificate ℕ

@@ -1,17 +1,17 @@
-ghost use Rattle.std.specs.Prelude.{◌≡◌, ◌≤◌, [], ◌∷◌, Some, None, length, map, All, MatchOption, MatchBool, IfOk, IfSome};
+ghost use Rattle.std.specs.Prelude.{◌≡◌, ◌≤◌, [], ◌∷◌, Some, None, length, map, All, MatchBool, IfOk, IfSome};
 ghost use Rattle.std.specs.Option.{option_map};
 ghost use Rattle.line_text.specs.Fields.{fields_of};
 ghost use Rattle.cost_vector.specs.Costs.{max_criteria, min_criteria};
 ghost use Rattle.cert_rules.specs.Certificates.{IsCertificate, IsLine, max_component};
 ghost use Rattle.front_cert.specs.Listing.{IsListingOf, line_of};
-ghost use Rattle.front_cert.specs.Reads.{FirstIn, IsDraft, draft_of, front_in};
+ghost use Rattle.front_cert.specs.Reads.{IsDraft, draft_of};
 ghost use Rattle.front_cert.specs.Text.{components, follows, heading_from, label_from, last_label, with_label};
 
 use crate::Listing;
 use crate::lookup::is_before;
 use arc_graph::Network;
 use cost_vector::{ArcNo, Cost, Label, MAX_CRITERIA, NodeNo};
-use line_text::{Numeral, first_byte, next_field, next_number};
+use line_text::{first_byte, next_field, next_in};
 use out_of_memory::OutOfMemory;
 use std::alloc::Global;
 
@@ -133,17 +133,6 @@ fn cost_in(text: &[u8], criteria: usize) -> Option<Cost>
         return None;
     }
     Some(Cost::of_numbers(&places[..criteria]))
-}
-
-/// The number that the first field of a text writes, where it is in range, and what stands behind the field.
-fn next_in(text: &[u8], least: u64, greatest: u64) -> Option<(u64, &[u8])>
-    ensures { MatchOption result (front_in least greatest (fields_of text.now) ≡ None)
-        (λ found. FirstIn least greatest (fields_of text.now) found.0 (fields_of found.1.now)) }
-{
-    match next_number(text, greatest)? {
-        (Numeral::Value(number), rest) if least <= number => Some((number, rest)),
-        _ => None,
-    }
 }
 
 impl Draft {

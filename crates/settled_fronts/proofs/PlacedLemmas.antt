@@ -23,15 +23,20 @@ use Rattle.settled_fronts.specs.NodeFronts.{Fronts, AreFronts, AreStored, IsKept
 abbrev Costs : Type 0
 Costs = List (List ℕ)
 
--- what a push leaves at a node
-pub stored_after : (bound : ℕ) (c : List ℕ) (costs more : Costs) (r : Result Unit OutOfMemory) → ¬ IsCovered costs c → All (λ x. x < bound) c
-    → IfOk r (λ _. IsPermutation (c ∷ costs) more) → OnErr r (more ≡ costs) → AreStored bound costs → AreStored bound more
-stored_after bound c costs more (Err _) uncovered fits moved same stored = subst (AreStored bound) (sym same) stored
-stored_after bound c costs more (Ok _) uncovered fits moved same stored = record {
+-- what one more cost leaves at a node
+pub stored_more : (bound : ℕ) (c : List ℕ) (costs more : Costs) → ¬ IsCovered costs c → All (λ x. x < bound) c → IsPermutation (c ∷ costs) more
+    → AreStored bound costs → AreStored bound more
+stored_more bound c costs more uncovered fits moved stored = record {
   once = once_in_any_order (c ∷ costs) more moved (pairs_cons ◌≢◌ c costs (λ e there is.
       uncovered (record { by = e; contains = there; at_most = subst (λ b. AtMost b c) is (AtMost-refl c) })) stored.once);
   fits = All-permutation (All (λ x. x < bound)) (c ∷ costs) more moved (All-cons (All (λ x. x < bound)) c costs fits stored.fits);
 }
+
+-- and a push, whether or not there was memory for it
+pub stored_after : (bound : ℕ) (c : List ℕ) (costs more : Costs) (r : Result Unit OutOfMemory) → ¬ IsCovered costs c → All (λ x. x < bound) c
+    → IfOk r (λ _. IsPermutation (c ∷ costs) more) → OnErr r (more ≡ costs) → AreStored bound costs → AreStored bound more
+stored_after bound c costs more (Err _) uncovered fits moved same stored = subst (AreStored bound) (sym same) stored
+stored_after bound c costs more (Ok _) uncovered fits moved same stored = stored_more bound c costs more uncovered fits moved stored
 
 -- other lists of as many nodes
 restored : {d bound wide nodes : ℕ} {costs more : List Costs} → AreFronts d bound (record { nodes = nodes; costs = costs })
@@ -105,7 +110,7 @@ kept_new d bound n two four few = record {
 
 module _ {d bound : ℕ} {places : List ℕ} {begun : List Costs} (kept : IsKept d bound places begun) {v : ℕ} (within : v < length places) where
   -- the costs of a node are those at its place
-  costs_placed : get_or (costs_by places begun) v [] ≡ get_or begun (get_or places v 0) []
+  pub costs_placed : get_or (costs_by places begun) v [] ≡ get_or begun (get_or places v 0) []
   costs_placed = get_or-map (λ k. get_or begun k []) places v 0 [] within
 
   -- an empty list is begun for a node that has none

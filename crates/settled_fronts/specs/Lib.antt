@@ -1,1 +1,3 @@
 pub mod NodeFronts
+pub mod Settling
+pub mod Sharing

@@ -4,13 +4,20 @@ ghost use Rattle.road_network.specs.Limits.{max_nodes};
 ghost use Rattle.road_network.specs.Network.{IsNode};
 ghost use Rattle.settled_front.specs.Fronts.{IsCovered, ListsCosts};
 ghost use Rattle.settled_fronts.specs.NodeFronts.{AreFronts, IsKept, SameElsewhere, costs_at, kept_fronts, settled_pairs};
+ghost use Rattle.settled_fronts.specs.Settling.{CanSettle, SettlesAll};
+ghost use Rattle.waiting_item.specs.Waiting.{spot_in};
 
+use crate::settling::{Settling, list_places, reach_all};
+use crate::sharing::share;
 use cost_vector::{CompactCost, NodeNo};
 use out_of_memory::OutOfMemory;
 use settled_front::{NarrowFront, SettledFront};
 use std::alloc::Global;
 use std::marker::Model;
+use std::thread::Threads;
 use stored_cost::StoredCost;
+use waiting_item::Item;
+use work_claim::{Gate, Workers};
 
 /// The settled costs of all nodes. Of a node that has none, one number is kept.
 #[derive(Drop)]
@@ -122,6 +129,48 @@ impl<const D: usize, F: SettledFront<D>> Fronts<D, F> {
     }
 }
 
+impl<const D: usize, F: SettledFront<D> + Send> Fronts<D, F>
+where
+    F::Cost: Send + Sync,
+    <F::Cost as StoredCost<D>>::Part: Send + Sync,
+{
+    /// Settles what these items say. The fronts are shared by the workers: each has those from one place to another, and passes
+    /// the gate by the number of the first one.
+    pub fn push_all<R: Threads + Sync, G: Gate>(
+        self,
+        workers: &Workers<'_, R, G>,
+        items: &[Item<F::Cost>],
+    ) -> Result<Fronts<D, F>, OutOfMemory>
+        requires { CanSettle self (map (spot_in F.Cost.components) items.now) }
+        ensures { IfOk result (λ after.
+            SettlesAll self after (map (spot_in F.Cost.components) items.now)) }
+    {
+        let Fronts {
+            mut places,
+            mut fronts,
+            alloc,
+        } = self;
+        reach_all::<D, F>(&mut places, &mut fronts, alloc, items)?;
+        let numbers = if workers.count() == 1 {
+            Vec::new(alloc)
+        } else {
+            list_places(alloc, &places, items)?
+        };
+        let size = items.len().div_ceil(workers.count() as usize).max(1);
+        let settling = Settling::<D, F, G> {
+            gate: workers.gate(),
+            places: &places,
+            items,
+        };
+        share(workers.rt(), &settling, &numbers, size, 0, &mut fronts)?;
+        Ok(Fronts {
+            places,
+            fronts,
+            alloc,
+        })
+    }
+}
+
 impl<const D: usize, F: NarrowFront<D>> Fronts<D, F> {
     /// The same costs, with room for greater ones.
     pub fn widen(&self, alloc: Global) -> Result<Fronts<D, F::Wide>, OutOfMemory>
@@ -151,7 +200,7 @@ fn widen_all<const D: usize, F: NarrowFront<D>>(
 }
 
 /// The place of a node's front; where it has none, one without costs is begun.
-fn reach<const D: usize, F: SettledFront<D>>(
+pub(crate) fn reach<const D: usize, F: SettledFront<D>>(
     places: &mut Vec<u32>,
     fronts: &mut Vec<F>,
     alloc: Global,
@@ -165,6 +214,9 @@ fn reach<const D: usize, F: SettledFront<D>>(
         ≡ kept_fronts places.old.items (map F.costs fronts.old.items) }
     ensures place { IfOk result (λ k. k ≡ slice_index places.new.items node.0) }
     ensures reached { IfOk result (λ k. k ≢ 0) }
+    ensures stay { (v : ℕ) → slice_index places.old.items v ≢ 0
+        → slice_index places.new.items v ≡ slice_index places.old.items v }
+    ensures long { length places.new.items ≡ length places.old.items }
 {
     let place = places[node.0 as usize];
     if place != 0 {

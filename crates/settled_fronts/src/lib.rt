@@ -2,5 +2,7 @@
 #![tactic(auto)]
 
 mod fronts;
+mod settling;
+mod sharing;
 
 pub use fronts::Fronts;

@@ -12,7 +12,7 @@ returns-in_err-put_heading g c =
     let l = c.args.listing.now in
     let text = cert_text l.criteria l.cert in
     rw (p.1, p.2) (subst (λ page. Sends {T = Unit {0}} (g.K.Sink.state c.args.sink.now) (g.K.Sink.state c.put_heading.new.sink) (page ++ text) (Err c.in_err-put_heading.field-0.0)) c.new-page.ensures
-    (Gathers-cut _ _ c.new-page.result (heading_line l.criteria l.cert) (flat_map label_line l.cert.labels) _ c.in_err-put_heading.ensures))
+    (Gathers-cut _ _ c.new-page.result (heading_line l.criteria l.cert) (flat_map label_line l.cert.labels) _ c.in_err-put_heading.ensures).sends)
 
 pub returns-in_err-put_labels : goal.returns-in_err-put_labels
 returns-in_err-put_labels g c =
@@ -20,7 +20,7 @@ returns-in_err-put_labels g c =
     let l = c.args.listing.now in
     let text = cert_text l.criteria l.cert in
     rw (p.1, p.2) (subst (λ page. Sends {T = Unit {0}} (g.K.Sink.state c.args.sink.now) (g.K.Sink.state c.put_labels.new.sink) (page ++ text) (Err c.in_err-put_labels.field-0.0)) c.new-page.ensures
-    (Holds-cut _ _ _ c.new-page.result c.put_heading.new.page _ _ c.in_ok-put_heading.ensures _ c.in_err-put_labels.ensures))
+    (Holds-cut _ _ _ c.new-page.result c.put_heading.new.page _ _ c.in_ok-put_heading.ensures _ c.in_err-put_labels.ensures).sends)
 
 pub returns : goal.returns
 returns g c =

@@ -1,5 +1,6 @@
 use Rattle.std.proofs.lemmas.Option.{IfSome_then}
-use Rattle.front_cert.proofs.ReadLemmas.{advanced, next_ok, next_err}
+use Rattle.line_text.proofs.TextLemmas.{advanced}
+use Rattle.front_cert.proofs.ReadLemmas.{next_ok, next_err}
 use Rattle.front_cert.proofs.reader.next_line.Goals as goal
 
 pub returns-in-Ok-clause-tells : goal.returns-in-Ok-clause-tells

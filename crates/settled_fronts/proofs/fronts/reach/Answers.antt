@@ -1,5 +1,5 @@
-use Rattle.std.proofs.Common.{◌≡◌, [], ◌∷◌, ◌++◌, length, map, arith, rules}
-use Rattle.std.proofs.lemmas.List.{length-map, length-set, map_push}
+use Rattle.std.proofs.Common.{◌≡◌, [], ◌∷◌, ◌++◌, get_or, length, map, ap, ◌∙◌, arith, rules}
+use Rattle.std.proofs.lemmas.List.{get_or-set_other, length-map, length-set, map_push}
 use Rattle.settled_fronts.proofs.PlacedLemmas.{kept_more, same_costs}
 use Rattle.settled_fronts.proofs.fronts.reach.Goals as goal
 
@@ -13,4 +13,7 @@ returns g c =
       same = rw (more, last, length-set, same_costs c.requires.kept c.requires.within (search rules));
       place = search rules;
       reached = search rules;
+      stay = λ v some. get_or-set_other c.args.places.now.items c.args.node.0 v c.len-next.result 0
+          (λ is. some (ap (λ u. get_or c.args.places.now.items u 0) is ∙ (search rules)));
+      long = length-set c.args.places.now.items c.args.node.0 c.len-next.result;
     }

@@ -296,10 +296,8 @@ fn a_full_device_is_a_fault(rt: HostRuntime) {
 fn takes_sent<T: Send + Drop>(_value: T) {}
 
 #[test]
-fn forms_can_go_to_threads(rt: HostRuntime) {
+fn sources_and_sinks_can_go_to_threads(rt: HostRuntime) {
     let alloc = rt.alloc();
     takes_sent(MemorySource::new(Vec::new(alloc), Vec::new(alloc)));
     takes_sent(MemorySink::new(alloc, 3, Vec::new(alloc)));
-    takes_sent(MemoryFolder::new(Vec::new(alloc), Vec::new(alloc)));
-    takes_sent(HostFolder::new(rt));
 }

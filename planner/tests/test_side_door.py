@@ -168,11 +168,6 @@ HELLO = b"\x16\x03\x01\x00\x4d\x01\x00\x00\x49\x03\x03%b\x20%b\x00\x02\xc0\x2f\x
 )
 
 
-@pytest.mark.xfail(
-    strict=True,
-    raises=AssertionError,
-    reason="by TLS no line of HTTP is sent, as docs/SERVING.md says",
-)
 def test_lines_in_a_session_of_tls(served, six_arcs):
     with served(six_arcs) as server:
         with socket.create_connection((server.host, server.operator_port)) as link:

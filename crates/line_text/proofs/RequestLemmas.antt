@@ -12,9 +12,8 @@ use Rattle.line_text.specs.declared.limits.LineFault.TheVariants.{Total, Read}
 use Rattle.line_text.specs.declared.limits.LineLimits.{LineLimits}
 use Rattle.line_text.specs.declared.limits.Request.{Request}
 use Rattle.line_text.specs.declared.limits.Request.TheVariants.{Whole, Long}
-use Rattle.line_text.specs.Http.{is_http}
-use Rattle.line_text.specs.LastFields.{IsSkipped}
-use Rattle.line_text.specs.declared.http.LastField.{LastField}
+use Rattle.line_text.specs.Foreign.{IsSkipped, is_foreign}
+use Rattle.line_text.specs.declared.foreign.LineSeen.{LineSeen}
 use Rattle.line_text.specs.Lines.{first_lf, raw_line, after_line, line_size, without_cr}
 use Rattle.line_text.specs.Pieces.{Refills}
 use Rattle.line_text.specs.Reading.{CountsLine, KnowsEnd, Lines, LosesNone, left_for, rest_of}
@@ -24,7 +23,7 @@ use Rattle.line_text.proofs.LineLemmas.{BeginsAlike, begins_alike, begins_alike-
 use Rattle.line_text.proofs.AdvancesLemmas.{ended_behind, ends_by, held_same, known, loses_none-kept, loses_none-read, none_left, rest_grown}
 
 -- Bytes of the first line were passed, if it is too long, others are held behind them, and there is no current line.
-pub record HoldsPart (old now : Lines) (seen : Option LastField) (before after : SourceState) : Type 0 where
+pub record HoldsPart (old now : Lines) (seen : Option LineSeen) (before after : SourceState) : Type 0 where
   pub front : List ℕ
   pub stays : now ≡ record old { held = now.held; text = []; passed = old.passed + length front; ended = now.ended }
   pub no_lf : first_lf front ≡ length front
@@ -97,7 +96,7 @@ request_of-nothing limits passed within = rw (lt-ltb (passed + 0) limits.total (
 
 -- ---- the answers
 
-module _ (old now : Lines) (seen : Option LastField) (before after : SourceState) (cuts : HoldsPart old now seen before after) where
+module _ (old now : Lines) (seen : Option LineSeen) (before after : SourceState) (cuts : HoldsPart old now seen before after) where
   abbrev cut : Bool
   cut = is_some seen
 
@@ -129,7 +128,7 @@ module _ (old now : Lines) (seen : Option LastField) (before after : SourceState
 
   -- the first line that is held becomes this request
   module _ (request : Request) (is : request ≡ request_behind old.limits cut (length (raw_line now.held))) (some : cut ≡ false → 0 < length now.held)
-      (http : Bool) (tells : http ≡ is_http (cuts.front ++ raw_line now.held)) where
+      (foreign : Bool) (tells : foreign ≡ is_foreign (cuts.front ++ raw_line now.held)) where
     -- where a part was passed, or a byte is held, the line takes one
     takes_some : 0 < length cuts.front + length now.held
     takes_some = by cut refl where
@@ -137,7 +136,7 @@ module _ (old now : Lines) (seen : Option LastField) (before after : SourceState
       by true e = omega (arith, cuts.long e)
       by false e = omega (arith, some e)
 
-    counts_past : (r : Request) → request ≡ r → RequestCounts old (past_request same r http) (Ok (Some r))
+    counts_past : (r : Request) → request ≡ r → RequestCounts old (past_request same r foreign) (Ok (Some r))
     counts_past Whole e =
         let uncut = whole_uncut old.limits cut (length (raw_line now.held)) (sym e ∙ is) in
         let none = ap length (cuts.whole uncut) in
@@ -145,7 +144,7 @@ module _ (old now : Lines) (seen : Option LastField) (before after : SourceState
         let raw = length-raw_line now.held in
         let within = first_lf-le now.held in
         let byte = some uncut in
-        let counts : CountsLine old (past_request same Whole http) =
+        let counts : CountsLine old (past_request same Whole foreign) =
         record { number = refl; more = omega arith; holds_text = omega arith; at_most = omega arith } in
         let asked : Whole ≡ request_behind old.limits cut (length (raw_line now.held)) = sym e ∙ is in
         record {
@@ -153,7 +152,7 @@ module _ (old now : Lines) (seen : Option LastField) (before after : SourceState
           raw = raw_line now.held;
           short = whole_short old.limits cut (length (raw_line now.held)) asked;
           text = refl;
-          http = tells ∙ ap (λ front. is_http (front ++ raw_line now.held)) (cuts.whole uncut);
+          foreign = tells ∙ ap (λ front. is_foreign (front ++ raw_line now.held)) (cuts.whole uncut);
         }
     counts_past Long e =
         let asked : Long ≡ request_by old.limits (length cuts.front + first_lf now.held) = sym e ∙ is
@@ -166,7 +165,7 @@ module _ (old now : Lines) (seen : Option LastField) (before after : SourceState
           more = grind (arith, nat_tests);
           raw = cuts.front ++ raw_line now.held;
           long = let size = length-append cuts.front (raw_line now.held) in grind (arith, nat_tests);
-          http = tells;
+          foreign = tells;
         }
 
     text_past : (r : Request) → request ≡ r → (more : List ℕ) → BeginsAlike now.held more
@@ -186,7 +185,7 @@ module _ (old now : Lines) (seen : Option LastField) (before after : SourceState
           absurd (omega (arith, whole e, part, line.lf, length-append cuts.front (now.held ++ more), length-append now.held more))
 
     takes_first : old.passed + length cuts.front + first_lf now.held < old.limits.total → (now.ended ≡ false → first_lf now.held < length now.held)
-        → (more : List ℕ) → BeginsAlike now.held more → TakesFirst old (past_request same request http) (cuts.front ++ (now.held ++ more)) (Some (after_line now.held ++ more)) request
+        → (more : List ℕ) → BeginsAlike now.held more → TakesFirst old (past_request same request foreign) (cuts.front ++ (now.held ++ more)) (Some (after_line now.held ++ more)) request
     takes_first within whole more alike =
         let rest = cuts.front ++ (now.held ++ more) in
         let line = begins_behind cuts.front now.held more cuts.no_lf alike in
@@ -199,7 +198,7 @@ module _ (old now : Lines) (seen : Option LastField) (before after : SourceState
           answer = request_of-within old.limits old.passed rest (omega (arith, within, line.lf, length-raw_line rest)) long
               ∙ ap (λ r. Ok (Some r)) (sym (is ∙ asked));
           text = text_past request refl more alike;
-          http = tells ∙ ap is_http (sym line.raw);
+          foreign = tells ∙ ap is_foreign (sym line.raw);
           passed = omega (arith, line.size);
           left = ap Some (sym line.behind);
           lines = lines_of-first rest long;
@@ -208,9 +207,9 @@ module _ (old now : Lines) (seen : Option LastField) (before after : SourceState
 
     requests_past : old.passed + length cuts.front + first_lf now.held < old.limits.total → (now.ended ≡ false → first_lf now.held < length now.held)
         → ((more : List ℕ) → left_for now after ≡ Some more → BeginsAlike now.held more)
-        → Requests old (past_request same request http) before after (Ok (Some request))
+        → Requests old (past_request same request foreign) before after (Ok (Some request))
     requests_past within whole alike =
-        requests_by (past_request same request http) (Ok (Some request)) refl refl (counts_past request refl) (λ e. absurd cc)
+        requests_by (past_request same request foreign) (Ok (Some request)) refl refl (counts_past request refl) (λ e. absurd cc)
         (omega (arith, length-raw_line now.held, first_lf-le now.held, length-drop {A = ℕ}))
         (λ more left. takes_first within whole more (alike more left))
 
@@ -218,7 +217,7 @@ module _ (old now : Lines) (seen : Option LastField) (before after : SourceState
   pub requests_whole : (next : Lines) (request : Request) → TakesEnded now next seen request → Requests old next before after (Ok (Some request))
   requests_whole next request taken =
       let step = rw cuts.stays at taken in
-      rw step.taken (requests_past request step.answer (λ e. omega (arith, step.whole)) next.http (step.http cuts.front cuts.shows) step.within (λ going. step.whole)
+      rw step.taken (requests_past request step.answer (λ e. omega (arith, step.whole)) next.foreign (step.foreign cuts.front cuts.shows) step.within (λ going. step.whole)
       (λ more left. begins_alike now.held more step.whole))
 
   part_left : (more : List ℕ) → PassesPart old same (cuts.front ++ (now.held ++ more)) (Some (now.held ++ more))
@@ -258,7 +257,7 @@ module _ (old now : Lines) (seen : Option LastField) (before after : SourceState
   requests_end next (Some request) last part within end =
       let step = rw cuts.stays at last in
       let total = rw cuts.stays at within in
-      rw step.taken (requests_past request step.answer step.some next.http (step.http cuts.front cuts.shows) (omega (arith, total, part)) (λ going. let no : false ≡ true = sym going ∙ end in absurd cc)
+      rw step.taken (requests_past request step.answer step.some next.foreign (step.foreign cuts.front cuts.shows) (omega (arith, total, part)) (λ going. let no : false ≡ true = sym going ∙ end in absurd cc)
       (λ more left. let nothing : more ≡ [] = none_left now after more end left in rw nothing (begins_alike-nil now.held)))
   requests_end next None last part within end =
       let step = rw cuts.stays at last in
@@ -282,7 +281,7 @@ past_limit line true front held all e long is = omega (arith, long refl)
 past_limit line false front held all e long is = grind (arith, nat_tests)
 
 -- what is held of a line that is too long is passed
-skips_held : (old now : Lines) (seen later : Option LastField) (before after : SourceState) → HoldsPart old now seen before after → first_lf now.held ≡ length now.held
+skips_held : (old now : Lines) (seen later : Option LineSeen) (before after : SourceState) → HoldsPart old now seen before after → first_lf now.held ≡ length now.held
     → is_some later ≡ (is_some seen || nat_lt now.limits.line (length now.held))
     → ((front : List ℕ) → IsSkipped seen front → IsSkipped later (skipped_with front now.held (is_some later)))
     → HoldsPart old (without_held now (is_some later)) later before after
@@ -308,7 +307,7 @@ skips_held old now seen (Some last) before after cuts part is shows =
 skips_held old now (Some first) None before after cuts part is shows = let no : ⊥ = cc in absurd no
 skips_held old now None None before after cuts part is shows = cuts
 
-module _ (old now mid skipped next : Lines) (seen later : Option LastField) (before after behind : SourceState) (result : Result Bool Failed)
+module _ (old now mid skipped next : Lines) (seen later : Option LineSeen) (before after behind : SourceState) (result : Result Bool Failed)
     (cuts : HoldsPart old now seen before after) (lacks : LacksEnd now mid) (is : is_some later ≡ (is_some seen || nat_lt mid.limits.line (length mid.held)))
     (without : skipped ≡ without_held mid (is_some later)) (shows : (front : List ℕ) → IsSkipped seen front → IsSkipped later (skipped_with front mid.held (is_some later)))
     (stays : next ≡ record skipped { held = next.held; ended = next.ended })

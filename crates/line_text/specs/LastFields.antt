@@ -1,5 +1,5 @@
 -- What is known of the last field of a line while its bytes come.
-use Rattle.std.specs.Prelude.{◌≡◌, ◌<◌, ℕ, ◌==◌, ◌&&◌, if◌then◌else◌, Bool, true, false, Option, Some, None, List, [], ◌∷◌, ◌++◌, take, codes}
+use Rattle.std.specs.Prelude.{◌≡◌, ◌<◌, ℕ, ◌==◌, ◌&&◌, if◌then◌else◌, Bool, true, false, List, [], ◌∷◌, ◌++◌, take, codes}
 use Rattle.std.specs.List.{AllPass}
 use Rattle.line_text.specs.Fields.{is_filled, fields_of}
 use Rattle.line_text.specs.Http.{last_names_http}
@@ -30,11 +30,6 @@ pub record Shows (last : LastField) (text : List ℕ) : Type 0 where
   pub no_cr : without_cr front ≡ front
   pub filled : AllPass is_filled field
   pub stands : Stands last (last_names_http (fields_of front)) field
-
--- this was skipped of a line, and that is its last field, if a part was skipped
-abbrev pub IsSkipped : Option LastField → List ℕ → Type 0
-IsSkipped None front = front ≡ []
-IsSkipped (Some last) front = Shows last front
 
 -- a field that begins with a byte, behind one that begins with `HTTP/` or not
 abbrev pub begins : Bool → ℕ → LastField

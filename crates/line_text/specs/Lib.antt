@@ -1,4 +1,5 @@
 pub mod Fields
+pub mod Foreign
 pub mod Http
 pub mod LastFields
 pub mod Lines

@@ -32,8 +32,8 @@ pub record Lines : Type 0 where
   pub fault : Option LineFault
   -- whether the source said that it is at its end
   pub ended : Bool
-  -- whether the line that was taken last as a request is one of HTTP
-  pub http : Bool
+  -- whether the line that was taken last as a request is of another protocol
+  pub foreign : Bool
 
 -- a reader before its first line
 abbrev pub begun : LineLimits → Lines
@@ -45,7 +45,7 @@ begun limits = record {
   passed = 0;
   fault = None;
   ended = false;
-  http = false;
+  foreign = false;
 }
 
 -- what the source has left for a reader, where it tells: nothing where the input has ended

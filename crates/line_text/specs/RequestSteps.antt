@@ -6,9 +6,8 @@ use Rattle.line_text.specs.declared.limits.LineFault.TheVariants.{Total}
 use Rattle.line_text.specs.declared.limits.LineLimits.{LineLimits}
 use Rattle.line_text.specs.declared.limits.Request.{Request}
 use Rattle.line_text.specs.declared.limits.Request.TheVariants.{Whole, Long}
-use Rattle.line_text.specs.Http.{is_http}
-use Rattle.line_text.specs.LastFields.{IsSkipped}
-use Rattle.line_text.specs.declared.http.LastField.{LastField}
+use Rattle.line_text.specs.Foreign.{IsSkipped, is_foreign}
+use Rattle.line_text.specs.declared.foreign.LineSeen.{LineSeen}
 use Rattle.line_text.specs.Lines.{first_lf, raw_line, after_line, line_size}
 use Rattle.line_text.specs.Reading.{Lines}
 use Rattle.line_text.specs.Requests.{HoldsLine, request_text}
@@ -17,27 +16,27 @@ use Rattle.line_text.specs.Requests.{HoldsLine, request_text}
 abbrev pub request_behind : LineLimits → Bool → ℕ → Request
 request_behind limits cut raw = if cut || nat_lt limits.line raw then Long else Whole
 
--- the reader behind the first line that is held, taken as this request, which is one of HTTP or not
+-- the reader behind the first line that is held, taken as this request, which is of another protocol or not
 abbrev pub past_request : Lines → Request → Bool → Lines
-past_request lines request http = record lines {
+past_request lines request foreign = record lines {
   held = after_line lines.held;
   text = request_text request (raw_line lines.held);
   number = lines.number + 1;
   passed = lines.passed + line_size lines.held;
-  http = http;
+  foreign = foreign;
 }
 
--- The line that was taken is one of HTTP or not, whatever was skipped of it.
-abbrev pub TellsHttp : Lines → Lines → Option LastField → Type 0
-TellsHttp old new skipped = (front : List ℕ) → IsSkipped skipped front → new.http ≡ is_http (front ++ raw_line old.held)
+-- The line that was taken is of another protocol or not, whatever was skipped of it.
+abbrev pub TellsForeign : Lines → Lines → Option LineSeen → Type 0
+TellsForeign old new skipped = (front : List ℕ) → IsSkipped skipped front → new.foreign ≡ is_foreign (front ++ raw_line old.held)
 
 -- The first line is held with its LF, and it is taken.
-pub record TakesEnded (old new : Lines) (skipped : Option LastField) (request : Request) : Type 0 where
+pub record TakesEnded (old new : Lines) (skipped : Option LineSeen) (request : Request) : Type 0 where
   pub whole : HoldsLine old
   pub within : old.passed + first_lf old.held < old.limits.total
   pub answer : request ≡ request_behind old.limits (is_some skipped) (length (raw_line old.held))
-  pub taken : new ≡ past_request old request new.http
-  pub http : TellsHttp old new skipped
+  pub taken : new ≡ past_request old request new.foreign
+  pub foreign : TellsForeign old new skipped
 
 -- Nothing changes, no LF is held, and the total isn't reached.
 pub record LacksEnd (old new : Lines) : Type 0 where
@@ -52,26 +51,26 @@ pub record EndsPast (old new : Lines) (fault : LineFault) : Type 0 where
   pub past : old.limits.total ≤ old.passed + first_lf old.held
 
 -- what an answer says of the first line that is held
-abbrev pub TakesAsked : Lines → Lines → Option LastField → Result (Option Request) LineFault → Type 0
+abbrev pub TakesAsked : Lines → Lines → Option LineSeen → Result (Option Request) LineFault → Type 0
 TakesAsked old new skipped (Ok (Some request)) = TakesEnded old new skipped request
 TakesAsked old new skipped (Ok None) = LacksEnd old new
 TakesAsked old new skipped (Err fault) = EndsPast old new fault
 
 -- What is held was the last of the input, and it is taken as this request.
-pub record TakesLast (old new : Lines) (skipped : Option LastField) (request : Request) : Type 0 where
+pub record TakesLast (old new : Lines) (skipped : Option LineSeen) (request : Request) : Type 0 where
   pub answer : request ≡ request_behind old.limits (is_some skipped) (length (raw_line old.held))
-  pub taken : new ≡ past_request old request new.http
-  pub http : TellsHttp old new skipped
+  pub taken : new ≡ past_request old request new.foreign
+  pub foreign : TellsForeign old new skipped
   pub some : is_some skipped ≡ false → 0 < length old.held
 
 -- Nothing is held, and nothing was skipped.
-pub record LacksLine (old new : Lines) (skipped : Option LastField) : Type 0 where
+pub record LacksLine (old new : Lines) (skipped : Option LineSeen) : Type 0 where
   pub uncut : is_some skipped ≡ false
   pub nothing : old.held ≡ []
   pub same : new ≡ old
 
 -- what an answer at the end of input says
-abbrev pub EndsInput : Lines → Lines → Option LastField → Option Request → Type 0
+abbrev pub EndsInput : Lines → Lines → Option LineSeen → Option Request → Type 0
 EndsInput old new skipped (Some request) = TakesLast old new skipped request
 EndsInput old new skipped None = LacksLine old new skipped
 

@@ -7,7 +7,7 @@ use Rattle.line_text.specs.declared.limits.LineFault.TheVariants.{Total, Read, T
 use Rattle.line_text.specs.declared.limits.LineLimits.{LineLimits}
 use Rattle.line_text.specs.declared.limits.Request.{Request}
 use Rattle.line_text.specs.declared.limits.Request.TheVariants.{Whole, Long}
-use Rattle.line_text.specs.Http.{is_http}
+use Rattle.line_text.specs.Foreign.{is_foreign}
 use Rattle.line_text.specs.Lines.{first_lf, raw_line, after_line, line_size, without_cr, lines_of}
 use Rattle.line_text.specs.Reading.{Lines, rest_of, LosesNone, Ends, CountsLine, CountsNone}
 
@@ -37,7 +37,7 @@ pub record CountsWhole (old new : Lines) : Type 0 where
   pub raw : List ℕ
   pub short : length raw ≤ old.limits.line
   pub text : new.text ≡ without_cr raw
-  pub http : new.http ≡ is_http raw
+  pub foreign : new.foreign ≡ is_foreign raw
 
 -- A line is skipped: it counts, and has more bytes than the limit.
 pub record CountsLong (old new : Lines) : Type 0 where
@@ -46,7 +46,7 @@ pub record CountsLong (old new : Lines) : Type 0 where
   pub more : old.passed + old.limits.line < new.passed
   pub raw : List ℕ
   pub long : old.limits.line < length raw
-  pub http : new.http ≡ is_http raw
+  pub foreign : new.foreign ≡ is_foreign raw
 
 -- There is no current line, and no line was counted. A part of a line that is too long may be skipped.
 pub record CountsFault (old new : Lines) : Type 0 where
@@ -85,7 +85,7 @@ RequestCounts old new (Err TooLong) = ⊥
 pub record TakesFirst (old new : Lines) (rest : List ℕ) (after : Option (List ℕ)) (request : Request) : Type 0 where
   pub answer : request_of old.limits old.passed rest ≡ Ok (Some request)
   pub text : new.text ≡ request_text request (raw_line rest)
-  pub http : new.http ≡ is_http (raw_line rest)
+  pub foreign : new.foreign ≡ is_foreign (raw_line rest)
   pub passed : new.passed ≡ old.passed + line_size rest
   pub left : after ≡ Some (after_line rest)
   pub lines : lines_of rest ≡ raw_line rest ∷ lines_of (after_line rest)

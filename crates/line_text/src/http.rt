@@ -2,7 +2,7 @@
 ghost use Rattle.std.specs.Prelude.{◌≡◌, ◌++◌, ◌∷◌, ℕ, List, [], false};
 ghost use Rattle.line_text.specs.Fields.{is_blank};
 ghost use Rattle.line_text.specs.Http.{is_http};
-ghost use Rattle.line_text.specs.LastFields.{IsSkipped, Shows, begins, ends_named, goes_on, goes_on_in_name, is_named};
+ghost use Rattle.line_text.specs.LastFields.{Shows, begins, ends_named, goes_on, goes_on_in_name, is_named};
 
 use crate::fields::is_blank;
 
@@ -111,15 +111,5 @@ impl LastField {
         ensures { (line : List ℕ) → Shows self line → result ≡ is_http line }
     {
         self.ends_named()
-    }
-}
-
-/// The last field of these bytes, behind what was skipped of their line.
-pub(crate) fn last_field(skipped: Option<LastField>, bytes: &[u8]) -> LastField
-    ensures { (front : List ℕ) → IsSkipped skipped front → Shows result (front ++ bytes.now) }
-{
-    match skipped {
-        Some(last) => last.behind(bytes),
-        None => LastField::none().behind(bytes),
     }
 }

@@ -5,6 +5,7 @@
 #![tactic(auto)]
 
 mod fields;
+mod foreign;
 mod http;
 mod limits;
 mod lines;

@@ -3,8 +3,7 @@ ghost use Rattle.std.specs.Prelude.{Ok, Err, Some, IfOk, OnOk, OnErr, IfSome, If
 ghost use Rattle.std.specs.Prelude.{None, IfErr, ◌||◌, nat_lt, ℕ, is_some};
 ghost use Rattle.std.specs.Result.{result_err};
 ghost use Rattle.route_io.specs.Sources.{Reads, ReadsFrom};
-ghost use Rattle.line_text.specs.Http.{is_http};
-ghost use Rattle.line_text.specs.LastFields.{IsSkipped};
+ghost use Rattle.line_text.specs.Foreign.{IsSkipped, is_foreign};
 ghost use Rattle.line_text.specs.Lines.{first_lf, without_cr};
 ghost use Rattle.line_text.specs.Marks.{first_fault, line_fault};
 ghost use Rattle.line_text.specs.Pieces.{Fills, LiesIn, Refills, TakesHeld, is_end, part_of, past_line};
@@ -12,7 +11,7 @@ ghost use Rattle.line_text.specs.Reading.{Advances, InLimits, begun, max_held, m
 ghost use Rattle.line_text.specs.Requests.{HoldsLine, Requests, request_text};
 ghost use Rattle.line_text.specs.RequestSteps.{EndsInput, TakesAsked, request_behind, skipped_with, without_held};
 
-use crate::http::{LastField, last_field};
+use crate::foreign::LineSeen;
 use crate::{LineFault, LineLimits, Request};
 use memchr::memchr;
 use out_of_memory::OutOfMemory;
@@ -47,7 +46,7 @@ pub struct Lines {
     passed: u64,
     fault: Option<LineFault>,
     ended: bool,
-    http: bool,
+    foreign: bool,
 }
 
 impl Model for Lines {
@@ -65,7 +64,7 @@ impl Model for Lines {
       passed = lines.passed;
       fault = lines.fault;
       ended = lines.ended;
-      http = lines.http;
+      foreign = lines.foreign;
     } };
 
     ghost invariant = { λ lines. (vec_len lines.buffer ≡ max_held)
@@ -90,7 +89,7 @@ impl Lines {
             passed: 0,
             fault: None,
             ended: false,
-            http: false,
+            foreign: false,
         })
     }
 
@@ -176,11 +175,12 @@ impl Lines {
         self.number
     }
 
-    /// Whether the line that `next_request` took last, whole or long, is one of HTTP: its last field begins with `HTTP/`.
-    pub fn is_http(&self) -> bool
-        ensures { result ≡ self.now.http }
+    /// Whether the line that `next_request` took last, whole or long, is of another protocol: it is one of HTTP, whose last
+    /// field begins with `HTTP/`, or holds a byte 0, as one of the first of each TLS connection does.
+    pub fn is_foreign(&self) -> bool
+        ensures { result ≡ self.now.foreign }
     {
-        self.http
+        self.foreign
     }
 
     /// What `next_line` does where no fault is kept.
@@ -282,12 +282,12 @@ impl Lines {
         true
     }
 
-    /// Takes the first line that is held, if its LF is held. `skipped` is the last field of what was skipped of it before.
+    /// Takes the first line that is held, if its LF is held. `skipped` is what is seen of what was skipped of it before.
     /// The LF isn't among the first `searched` bytes.
     fn take_request(
         &mut self,
         searched: usize,
-        skipped: Option<LastField>,
+        skipped: Option<LineSeen>,
     ) -> Result<Option<Request>, LineFault>
         requires searched { searched ≤ first_lf self.old.held }
         requires no_text { self.old.text ≡ [] }
@@ -302,9 +302,9 @@ impl Lines {
         Ok(Some(self.pass_request(raw, raw + 1, skipped)))
     }
 
-    /// Takes the last line, which has no LF, if there is a byte of it. `skipped` is the last field of what was skipped
+    /// Takes the last line, which has no LF, if there is a byte of it. `skipped` is what is seen of what was skipped
     /// of it before.
-    fn take_last(&mut self, skipped: Option<LastField>) -> Option<Request>
+    fn take_last(&mut self, skipped: Option<LineSeen>) -> Option<Request>
         requires no_lf { first_lf self.old.held ≡ length self.old.held }
         requires within { self.old.passed + length self.old.held < self.old.limits.total }
         requires no_text { self.old.text ≡ [] }
@@ -319,7 +319,7 @@ impl Lines {
     }
 
     /// Takes the first `size` bytes that are held, of which `raw` stand before the LF, as the next line.
-    fn pass_request(&mut self, raw: usize, size: usize, skipped: Option<LastField>) -> Request
+    fn pass_request(&mut self, raw: usize, size: usize, skipped: Option<LineSeen>) -> Request
         requires with_lf { raw ≤ size }
         requires held { size ≤ length self.old.held }
         requires total { self.old.passed + size ≤ self.old.limits.total }
@@ -332,12 +332,12 @@ impl Lines {
           text = request_text result (take raw self.old.held);
           number = self.old.number + 1;
           passed = self.old.passed + size;
-          http = self.new.http;
+          foreign = self.new.foreign;
         } }
-        ensures http { (front : List ℕ) → IsSkipped skipped front
-            → self.new.http ≡ is_http (front ++ take raw self.old.held) }
+        ensures foreign { (front : List ℕ) → IsSkipped skipped front
+            → self.new.foreign ≡ is_foreign (front ++ take raw self.old.held) }
     {
-        self.http = last_field(skipped, &self.held()[..raw]).is_http();
+        self.foreign = LineSeen::behind(skipped, &self.held()[..raw]).is_foreign();
         if skipped.is_some() || raw as u64 > u64::from(self.limits.line) {
             self.skip(size);
             self.number += 1;
@@ -347,9 +347,9 @@ impl Lines {
         Request::Whole
     }
 
-    /// Skips what is held of a line that is longer than the limit, or was cut before, and answers the last field of all that
+    /// Skips what is held of a line that is longer than the limit, or was cut before, and answers what is seen of all that
     /// was skipped of it.
-    fn skip_long(&mut self, skipped: Option<LastField>) -> Option<LastField>
+    fn skip_long(&mut self, skipped: Option<LineSeen>) -> Option<LineSeen>
         requires total { self.old.passed + length self.old.held ≤ self.old.limits.total }
         requires counted { is_some skipped ≡ true → self.old.number < self.old.passed }
         ensures long { is_some result
@@ -364,9 +364,9 @@ impl Lines {
         if skipped.is_none() && size as u64 <= u64::from(self.limits.line) {
             return None;
         }
-        let last = last_field(skipped, self.held());
+        let seen = LineSeen::behind(skipped, self.held());
         self.skip(size);
-        Some(last)
+        Some(seen)
     }
 
     /// Passes the first `size` bytes that are held.

@@ -33,7 +33,7 @@ serves_whole show scene policy whole s is begins allowed = record {
     named = is.runs.named;
   };
   each = is.each;
-  no_http = is.no_http;
+  no_foreign = is.no_foreign;
   lines = is.lines;
   wanted = is.wanted;
   wants = is.wants;

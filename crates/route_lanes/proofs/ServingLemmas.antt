@@ -38,7 +38,7 @@ module _ (scene : Scene) (policy : LinkPolicy) (whole : History) (allowed : IsPu
       named = refl;
     };
     each = is.each;
-    no_http = is.no_http;
+    no_foreign = is.no_foreign;
     lines = is.lines;
     wanted = is.wanted;
     wants = is.wants;

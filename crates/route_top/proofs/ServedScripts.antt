@@ -56,7 +56,7 @@ first_of_all lines taken rest first =
 abbrev pub most_taken : ℕ
 most_taken = 2 ^ 40
 
--- how a script is served: a line of HTTP is one like any other
+-- how a script is served: a line of another protocol is one like any other
 abbrev pub script_policy : LinkPolicy
 script_policy = record { bytes = most_taken; guarded = false }
 
@@ -84,7 +84,7 @@ unguarded : (IsBye : List ℕ → Type 0) (script : List ℕ) (lines : List (Lis
     → AreLinesOf script IsBye lines
 unguarded IsBye script lines (inl all) = inl all
 unguarded IsBye script lines (inr (bye, inl is, begins)) = inr (bye, is, begins)
-unguarded IsBye script lines (inr (bye, inr (off, http), begins)) = let wrong : false ≡ true = off in absurd cc
+unguarded IsBye script lines (inr (bye, inr (off, foreign), begins)) = let wrong : false ≡ true = off in absurd cc
 
 -- What a lane that wanted no memory has replied to its script.
 pub record HasReplied {State : Type 0} (Progresses : State → List Exchange → State → Type 0) (IsBye : List ℕ → Type 0) (old new : State)

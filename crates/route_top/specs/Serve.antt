@@ -25,7 +25,7 @@ use Rattle.route_top.specs.Lanes.{graph_of, weights_of}
 abbrev pub max_taken : ℕ
 max_taken = 2 ^ 40
 
--- how each link is served: a line of HTTP ends it, so that no web page can have a line obeyed
+-- how each link is served: a line of another protocol ends it, so that no web page can have a line obeyed
 abbrev pub serve_policy : LinkPolicy
 serve_policy = record { bytes = max_taken; guarded = true }
 

@@ -31,7 +31,7 @@ use work_claim::{Gate, Helpers, Workers};
 /// The most bytes that are taken from a link. No script has as many.
 pub(crate) const MAX_TAKEN: u64 = 1 << 40;
 
-/// How a script is served: a line of HTTP is one like any other.
+/// How a script is served: a line of another protocol is one like any other.
 pub(crate) const SCRIPT_POLICY: LinkPolicy = LinkPolicy {
     bytes: MAX_TAKEN,
     guarded: false,

@@ -26,7 +26,7 @@ use std::time::Clock;
 use still_commands::{Stop, read_network};
 use work_claim::{Gate, Helpers, Workers};
 
-/// How each link is served: a line of HTTP ends it, so that no web page can have a line obeyed.
+/// How each link is served: a line of another protocol ends it, so that no web page can have a line obeyed.
 const SERVE_POLICY: LinkPolicy = LinkPolicy {
     bytes: MAX_TAKEN,
     guarded: true,

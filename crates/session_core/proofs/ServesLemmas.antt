@@ -12,7 +12,7 @@ use Rattle.route_io.specs.declared.fault.WriteFault.{WriteFault as Cut}
 use Rattle.route_io.specs.declared.fault.WriteFault.TheVariants as write
 use Rattle.route_io.proofs.ReadsLemmas.{ReadsFrom-then}
 use Rattle.route_io.proofs.SendsLemmas.{Sends-then}
-use Rattle.line_text.specs.Http.{is_http}
+use Rattle.line_text.specs.Foreign.{is_foreign}
 use Rattle.line_text.specs.Lines.{first_lf, raw_line, lines_of}
 use Rattle.line_text.specs.Reading.{Lines, begun, line_failed, rest_of}
 use Rattle.line_text.specs.Requests.{RequestCounts, Requests, TellsRequest}
@@ -31,7 +31,7 @@ use Rattle.session_core.specs.declared.handler.Answered.{Answered}
 use Rattle.session_core.specs.declared.handler.Answered.TheVariants.{Replied, Bye}
 use Rattle.session_core.specs.Lines.{IsText, ended_lines, max_request}
 use Rattle.session_core.specs.declared.context.LinkPolicy.{LinkPolicy}
-use Rattle.session_core.specs.Links.{AreFirst, Begins, CutsLast, EndsLink, IsAll, RepliesToNoHttp, SendsReplies, Serves, TakesLines, is_read_fault, is_write_fault}
+use Rattle.session_core.specs.Links.{AreFirst, Begins, CutsLast, EndsLink, IsAll, RepliesToNoForeign, SendsReplies, Serves, TakesLines, is_read_fault, is_write_fault}
 use Rattle.session_core.specs.Handlers.{AnswersLine, TellsOne}
 use Rattle.session_core.specs.Serving.{AreAll, PassesLines, Served, ServesOne, end_by_answer, end_by_input}
 use Rattle.session_core.specs.Exchanges.{Exchange, lines_exchanged, text_exchanged}
@@ -67,13 +67,13 @@ first_without total taken left lines more first =
     inr (q.0, prefix_trans lines (lines ++ more) (lines_of taken) (more, refl) q.1)) first
 
 -- what the test of a guarded link tells
-guards : (guarded http : Bool) → (guarded && http) ≡ true → (guarded ≡ true) × (http ≡ true)
-guards true http e = (refl, e)
-guards false http e = absurd cc
+guards : (guarded foreign : Bool) → (guarded && foreign) ≡ true → (guarded ≡ true) × (foreign ≡ true)
+guards true foreign e = (refl, e)
+guards false foreign e = absurd cc
 
-unguarded : (guarded http : Bool) → guarded ≡ true → (guarded && http) ≡ false → http ≡ false
-unguarded true http is unseen = unseen
-unguarded false http is unseen = absurd cc
+unguarded : (guarded foreign : Bool) → guarded ≡ true → (guarded && foreign) ≡ false → foreign ≡ false
+unguarded true foreign is unseen = unseen
+unguarded false foreign is unseen = absurd cc
 
 module _ {State : Type 0} (Progresses : State → List Exchange → State → Type 0) (policy : LinkPolicy) where
   served_none : (old : State) (from : SourceState) (to : SinkState) → Progresses old [] old
@@ -86,7 +86,7 @@ module _ {State : Type 0} (Progresses : State → List Exchange → State → Ty
     knows_end = λ e. absurd cc;
     within = omega arith;
     each = omega arith;
-    no_http = λ guarded. All-nil _;
+    no_foreign = λ guarded. All-nil _;
     passes = by from.left;
     sent = record { bytes = Appends-nil to.sent; cause = record { faults = refl; wants = refl } };
     reads = record { cause = refl; files = refl; selected = refl };
@@ -153,23 +153,23 @@ module _ {State : Type 0} (Progresses : State → List Exchange → State → Ty
           is_line = ap (λ limits. limits.line) served.limits
 
           -- over every source there is a line that has this text
-          some_line : (raw : List ℕ) × IsText asked next.text raw × (next.http ≡ is_http raw)
+          some_line : (raw : List ℕ) × IsText asked next.text raw × (next.foreign ≡ is_foreign raw)
           some_line = by asked requests.counts where
-            by : (r : Request) → RequestCounts reader next (Ok (Some r)) → (raw : List ℕ) × IsText r next.text raw × (next.http ≡ is_http raw)
-            by Whole whole = (whole.raw, (omega (arith, whole.short, is_line), whole.text), whole.http)
-            by Long counts = (counts.raw, omega (arith, counts.long, is_line), counts.http)
+            by : (r : Request) → RequestCounts reader next (Ok (Some r)) → (raw : List ℕ) × IsText r next.text raw × (next.foreign ≡ is_foreign raw)
+            by Whole whole = (whole.raw, (omega (arith, whole.short, is_line), whole.text), whole.foreign)
+            by Long counts = (counts.raw, omega (arith, counts.long, is_line), counts.foreign)
 
           -- The line has this text, and it was passed behind the others.
           record IsNext (raw : List ℕ) : Type 0 where
             is : IsText asked next.text raw
-            http : next.http ≡ is_http raw
+            foreign : next.foreign ≡ is_foreign raw
             passes : IfSome from.left (λ text. PassesLines total text next after.left (lines_exchanged served.exchanges ++ raw ∷ []))
 
-          is_next : (raw : List ℕ) (left : Option (List ℕ)) → from.left ≡ left → IsText asked next.text raw → next.http ≡ is_http raw
+          is_next : (raw : List ℕ) (left : Option (List ℕ)) → from.left ≡ left → IsText asked next.text raw → next.foreign ≡ is_foreign raw
               → IfSome left (λ text. PassesLines total text next after.left (lines_exchanged served.exchanges ++ raw ∷ [])) → IsNext raw
-          is_next raw left e is http passes = record {
+          is_next raw left e is foreign passes = record {
             is = is;
-            http = http;
+            foreign = foreign;
             passes = subst (λ given. IfSome given (λ text. PassesLines total text next after.left (lines_exchanged served.exchanges ++ raw ∷ []))) (sym e) passes;
           }
 
@@ -189,11 +189,11 @@ module _ {State : Type 0} (Progresses : State → List Exchange → State → Ty
                 each_one : length one_exchange ≤ next.passed
                 each_one = omega (arith, length-append served.exchanges (tells.one ∷ []), served.each, more_passed)
 
-                no_http_one : (policy.guarded && next.http) ≡ false → RepliesToNoHttp policy one_exchange
-                no_http_one passes guarded =
-                    All-append (λ t. is_http t.line ≡ false) served.exchanges (tells.one ∷ []) (served.no_http guarded)
-                    (All-cons (λ t. is_http t.line ≡ false) tells.one [] (ap is_http tells.line ∙ sym line.http
-                    ∙ unguarded policy.guarded next.http guarded passes) (All-nil _))
+                no_foreign_one : (policy.guarded && next.foreign) ≡ false → RepliesToNoForeign policy one_exchange
+                no_foreign_one passes guarded =
+                    All-append (λ t. is_foreign t.line ≡ false) served.exchanges (tells.one ∷ []) (served.no_foreign guarded)
+                    (All-cons (λ t. is_foreign t.line ≡ false) tells.one [] (ap is_foreign tells.line ∙ sym line.foreign
+                    ∙ unguarded policy.guarded next.foreign guarded passes) (All-nil _))
 
                 sent_one : Sends to replied (text_exchanged served.exchanges ++ tells.one.reply) cut
                 sent_one = Sends-then to sunk replied (text_exchanged served.exchanges) tells.one.reply cut served.sent tells.sent
@@ -209,7 +209,7 @@ module _ {State : Type 0} (Progresses : State → List Exchange → State → Ty
                 begun_one end begun = takes_by next after.left (lines_exchanged one_exchange) (lines_exchanged one_exchange) end within begun from.left passes_one
 
               -- the line has its whole reply
-              goes_on : (policy.guarded && next.http) ≡ false → TellsOne (λ more. Progresses old more new) served.exchanges raw sunk replied (Ok tt)
+              goes_on : (policy.guarded && next.foreign) ≡ false → TellsOne (λ more. Progresses old more new) served.exchanges raw sunk replied (Ok tt)
                   → Served Progresses policy old new from after to replied next
               goes_on unseen tells = record {
                 exchanges = served.exchanges ++ tells.one ∷ [];
@@ -219,7 +219,7 @@ module _ {State : Type 0} (Progresses : State → List Exchange → State → Ty
                 knows_end = requests.ends.knows_end served.knows_end;
                 within = within;
                 each = each_one (Ok tt) tells;
-                no_http = no_http_one (Ok tt) tells unseen;
+                no_foreign = no_foreign_one (Ok tt) tells unseen;
                 passes = passes_one (Ok tt) tells;
                 sent = rw (text_more served.exchanges tells.one) (sent_one (Ok tt) tells);
                 reads = ReadsFrom-then from before after false served.reads source;
@@ -238,13 +238,13 @@ module _ {State : Type 0} (Progresses : State → List Exchange → State → Ty
                     served.sent.bytes tells.sent.bytes.2;
               }
 
-              ends_cut : (policy.guarded && next.http) ≡ false → (cut : Cut) → TellsOne (λ more. Progresses old more new) served.exchanges raw sunk replied (Err cut)
+              ends_cut : (policy.guarded && next.foreign) ≡ false → (cut : Cut) → TellsOne (λ more. Progresses old more new) served.exchanges raw sunk replied (Err cut)
                   → ServesOne Progresses IsBye policy old new from after to replied next (end_by_answer (Err (reply.Out cut)))
               ends_cut unseen write.Failed tells = record {
                 exchanges = one_exchange (Err write.Failed) tells;
                 runs = tells.led;
                 each = omega (arith, each_one (Err write.Failed) tells, within);
-                no_http = no_http_one (Err write.Failed) tells unseen;
+                no_foreign = no_foreign_one (Err write.Failed) tells unseen;
                 lines = begun_one (Err write.Failed) tells WriteFault (λ taken first. first);
                 wanted = false;
                 wants = λ e. absurd cc;
@@ -256,7 +256,7 @@ module _ {State : Type 0} (Progresses : State → List Exchange → State → Ty
                 exchanges = one_exchange (Err (write.OutOfMemory want)) tells;
                 runs = tells.led;
                 each = omega (arith, each_one (Err (write.OutOfMemory want)) tells, within);
-                no_http = no_http_one (Err (write.OutOfMemory want)) tells unseen;
+                no_foreign = no_foreign_one (Err (write.OutOfMemory want)) tells unseen;
                 lines = begun_one (Err (write.OutOfMemory want)) tells (OutOfMemory want) (λ taken first. first);
                 wanted = true;
                 wants = λ e. refl;
@@ -274,7 +274,7 @@ module _ {State : Type 0} (Progresses : State → List Exchange → State → Ty
                 exchanges = served.exchanges;
                 runs = runs;
                 each = omega (arith, served.each, more_passed, within);
-                no_http = served.no_http;
+                no_foreign = served.no_foreign;
                 lines = takes_by next after.left lines (lines_exchanged served.exchanges) end within begun from.left line.passes;
                 wanted = false;
                 wants = λ e. absurd cc;
@@ -284,7 +284,7 @@ module _ {State : Type 0} (Progresses : State → List Exchange → State → Ty
               }
 
               -- as the line was answered
-              serves_one : (policy.guarded && next.http) ≡ false → (answer : Result Answered ReplyFault)
+              serves_one : (policy.guarded && next.foreign) ≡ false → (answer : Result Answered ReplyFault)
                   → AnswersLine (λ more. Progresses old more new) IsBye served.exchanges raw sunk replied answer
                   → ServesOne Progresses IsBye policy old new from after to replied next (end_by_answer answer)
               serves_one unseen (Ok Replied) answers = goes_on unseen answers
@@ -306,11 +306,11 @@ module _ {State : Type 0} (Progresses : State → List Exchange → State → Ty
                 let takes = request_exchange (Ok (Some asked)) requests text passes in
                 let is = first_text reader next passes.rest (prepend_known next.held after.left) asked is_line takes in
                 let line = takes_line total text reader before.left (lines_exchanged served.exchanges) passes next after.left asked is_total takes in
-                (raw_line passes.rest, is_next (raw_line passes.rest) (Some text) told is takes.http line)
+                (raw_line passes.rest, is_next (raw_line passes.rest) (Some text) told is takes.foreign line)
 
           -- the next line was answered
           pub serves_next : (new : State) (replied : SinkState) (answer : Result Answered ReplyFault) → ReadsFrom before after false → next.fault ≡ None
-              → (policy.guarded && next.http) ≡ false
+              → (policy.guarded && next.foreign) ≡ false
               → ((exchanges : List Exchange) (raw : List ℕ) → IsText asked next.text raw → Progresses old exchanges mid
               → AnswersLine (λ more. Progresses old more new) IsBye exchanges raw sunk replied answer)
               → ServesOne Progresses IsBye policy old new from after to replied next (end_by_answer answer)
@@ -318,13 +318,13 @@ module _ {State : Type 0} (Progresses : State → List Exchange → State → Ty
               serves_one next_line.0 next_line.1 new replied source keeps unseen answer
               (answers served.exchanges next_line.0 next_line.1.is served.runs)
 
-          -- the next line is one of HTTP, and the link is guarded
-          pub serves_http : ReadsFrom before after false → next.fault ≡ None → (policy.guarded && next.http) ≡ true
+          -- the next line is of another protocol, and the link is guarded
+          pub serves_foreign : ReadsFrom before after false → next.fault ≡ None → (policy.guarded && next.foreign) ≡ true
               → Serves Progresses IsBye policy old mid from after to sunk Ended
-          serves_http source keeps seen =
-              let both = guards policy.guarded next.http seen in
+          serves_foreign source keeps seen =
+              let both = guards policy.guarded next.foreign seen in
               ends_silently next_line.0 next_line.1 mid sunk source keeps Ended
-              (λ taken first. inl (record { bye = next_line.0; is_bye = inr (both.0, sym next_line.1.http ∙ both.1); first = first })) served.runs refl
+              (λ taken first. inl (record { bye = next_line.0; is_bye = inr (both.0, sym next_line.1.foreign ∙ both.1); first = first })) served.runs refl
               refl refl served.sent.bytes
 
         -- ---- there is no next line
@@ -337,7 +337,7 @@ module _ {State : Type 0} (Progresses : State → List Exchange → State → Ty
           exchanges = served.exchanges;
           runs = served.runs;
           each = omega (arith, served.each, served.within);
-          no_http = served.no_http;
+          no_foreign = served.no_foreign;
           lines = lines;
           wanted = false;
           wants = λ e. absurd cc;

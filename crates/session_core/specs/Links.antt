@@ -4,7 +4,7 @@ use Rattle.std.specs.Io.KnownBytes.{Appends, Consumes, IsAtEnd}
 use mathlib.Core.List.{IsPrefix}
 use Rattle.route_io.specs.Sinks.{SinkState, WritesTo}
 use Rattle.route_io.specs.Sources.{SourceState, ReadsFrom}
-use Rattle.line_text.specs.Http.{is_http}
+use Rattle.line_text.specs.Foreign.{is_foreign}
 use Rattle.line_text.specs.Lines.{lines_of}
 use Rattle.session_core.specs.declared.context.LinkPolicy.{LinkPolicy}
 use Rattle.session_core.specs.declared.end.SessionEnd.{SessionEnd}
@@ -78,13 +78,13 @@ SendsReplies WriteFault wanted old new exchanges = CutsLast old new exchanges
 SendsReplies (OutOfMemory want) true old new exchanges = CutsLast old new exchanges
 SendsReplies end wanted old new exchanges = Appends old.sent new.sent (text_exchanged exchanges)
 
--- a line ends a link: it ends a session, or the link is guarded, and the line is one of HTTP
+-- a line ends a link: it ends a session, or the link is guarded, and the line is of another protocol
 abbrev pub EndsLink : LinkPolicy → (List ℕ → Type 0) → List ℕ → Type 0
-EndsLink policy IsBye raw = IsBye raw ⊎ ((policy.guarded ≡ true) × (is_http raw ≡ true))
+EndsLink policy IsBye raw = IsBye raw ⊎ ((policy.guarded ≡ true) × (is_foreign raw ≡ true))
 
--- no line of HTTP was replied to, where the link is guarded
-abbrev pub RepliesToNoHttp : LinkPolicy → List Exchange → Type 0
-RepliesToNoHttp policy exchanges = policy.guarded ≡ true → All (λ t. is_http t.line ≡ false) exchanges
+-- no line of another protocol was replied to, where the link is guarded
+abbrev pub RepliesToNoForeign : LinkPolicy → List Exchange → Type 0
+RepliesToNoForeign policy exchanges = policy.guarded ≡ true → All (λ t. is_foreign t.line ≡ false) exchanges
 
 -- Lines that come from a link were replied to on it, one after another, until the session ended so. `Progresses` says how lines
 -- with their replies led on, `IsBye` which line ends a session, and `policy` how many bytes are taken at most.
@@ -95,7 +95,7 @@ pub record Serves {State : Type 0} (Progresses : State → List Exchange → Sta
   pub runs : Progresses old exchanges new
   -- each of them took a byte at least
   pub each : length exchanges ≤ policy.bytes
-  pub no_http : RepliesToNoHttp policy exchanges
+  pub no_foreign : RepliesToNoForeign policy exchanges
   -- where the source tells its bytes, they are the lines of those that were taken
   pub lines : IfSome from.left (λ _. TakesLines (EndsLink policy IsBye) policy.bytes from.left after.left end
       (lines_exchanged exchanges))

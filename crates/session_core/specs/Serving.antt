@@ -15,7 +15,7 @@ use Rattle.session_core.specs.declared.end.SessionEnd.TheVariants.{Ended, ReadFa
 use Rattle.session_core.specs.declared.handler.Answered.{Answered}
 use Rattle.session_core.specs.declared.handler.Answered.TheVariants.{Replied, Bye}
 use Rattle.session_core.specs.Lines.{ended_lines, max_request}
-use Rattle.session_core.specs.Links.{RepliesToNoHttp, Serves}
+use Rattle.session_core.specs.Links.{RepliesToNoForeign, Serves}
 use Rattle.session_core.specs.declared.context.LinkPolicy.{LinkPolicy}
 use Rattle.session_core.specs.Exchanges.{Exchange, lines_exchanged, text_exchanged}
 
@@ -51,7 +51,7 @@ pub record Served {State : Type 0} (Progresses : State → List Exchange → Sta
   pub knows_end : KnowsEnd reader after
   pub within : reader.passed + length reader.held ≤ policy.bytes
   pub each : length exchanges ≤ reader.passed
-  pub no_http : RepliesToNoHttp policy exchanges
+  pub no_foreign : RepliesToNoForeign policy exchanges
   pub passes : IfSome from.left (λ text. PassesLines policy.bytes text reader after.left (lines_exchanged exchanges))
   pub sent : Sends {T = Unit {0}} to replied (text_exchanged exchanges) (Ok tt)
   pub reads : ReadsFrom from after false

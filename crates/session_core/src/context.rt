@@ -7,8 +7,8 @@ use work_claim::Workers;
 pub struct LinkPolicy {
     /// The most bytes that are taken from it.
     pub bytes: u64,
-    /// Whether a line of HTTP ends it, one whose last field begins with `HTTP/`: then neither that line nor what stands behind
-    /// it is replied to, so no web page can have a line obeyed.
+    /// Whether a line of another protocol ends it, one whose last field begins with `HTTP/` or that holds a byte 0: then neither
+    /// that line nor what stands behind it is replied to, so no web page can have a line obeyed.
     pub guarded: bool,
 }
 

@@ -19,8 +19,8 @@ use std::alloc::Global;
 const MAX_REQUEST: u32 = 1024;
 
 /// Has a handler answer the lines that come from a link, on it, until one ends the session, the input ends or so many bytes
-/// were taken, or, where the link is guarded, a line of HTTP comes. `answer` answers one line by its text, without its LF and one CR; that of a line too long for a request
-/// doesn't count.
+/// were taken, or, where the link is guarded, a line of another protocol comes. `answer` answers one line by its text, without
+/// its LF and one CR; that of a line too long for a request doesn't count.
 pub(crate) fn serve<C, H, F, S: Source, K: Sink>(
     alloc: Global,
     context: &C,
@@ -116,9 +116,9 @@ where
 
 /// Whether the line ends the link since that is guarded.
 fn is_warded_off(policy: LinkPolicy, lines: &Lines) -> bool
-    ensures { result ≡ (policy.guarded && lines.now.http) }
+    ensures { result ≡ (policy.guarded && lines.now.foreign) }
 {
-    policy.guarded && lines.is_http()
+    policy.guarded && lines.is_foreign()
 }
 
 /// How a session ends where there is no next line.

@@ -174,6 +174,10 @@ const GUARDED: &[(&str, &str, &[u32])] = &[
         &[0],
     ),
     ("e\nbye\nGET / HTTP/1.1\n", "k 0\n", &[0]),
+    ("\0\ne\n", "", &[]),
+    ("e\n\u{16}\u{3}\u{1}\0\u{4d}\ne\n", "k 0\n", &[0]),
+    ("\u{16}\u{3}\u{1}\u{2}\n\u{1}\0 x\r\ne\n", "x line\n", &[]),
+    ("e\ne\0", "k 0\n", &[0]),
 ];
 
 /// Each row, in pieces of several sizes; and without a guard each line has its reply.
@@ -195,7 +199,7 @@ fn serve_guarded<R: Threads + Wait + Clock + Sync + Abort>(
 }
 
 #[test]
-fn a_line_of_http_ends_a_guarded_link(rt: HostRuntime) -> Result<(), Fail> {
+fn a_line_of_another_protocol_ends_a_guarded_link(rt: HostRuntime) -> Result<(), Fail> {
     serve_guarded(&rt, rt.alloc())
 }
 
@@ -206,11 +210,19 @@ const LONG_HTTP: &[LongLine] = &[
     ("e", b' ', 1, "\n"),
 ];
 
-fn serve_long_http<R: Threads + Wait + Clock + Sync + Abort>(
+/// The same, where the second holds a byte 0.
+const LONG_ZERO: &[LongLine] = &[
+    ("HTTP/1.1 ", b'x', 1500, "\n"),
+    ("GET /\0", b'x', 1500, " HTTP/1.1 x\r\n"),
+    ("e", b' ', 1, "\n"),
+];
+
+fn serve_long_foreign<R: Threads + Wait + Clock + Sync + Abort>(
     rt: &R,
     alloc: Global,
+    lines: &[LongLine],
 ) -> Result<(), Fail> {
-    let text = text_of(alloc, LONG_HTTP)?;
+    let text = text_of(alloc, lines)?;
     let guarded = Row {
         guarded: true,
         ..ended("x line\n", &[])
@@ -228,7 +240,12 @@ fn serve_long_http<R: Threads + Wait + Clock + Sync + Abort>(
 
 #[test]
 fn a_long_line_of_http_ends_a_guarded_link(rt: HostRuntime) -> Result<(), Fail> {
-    serve_long_http(&rt, rt.alloc())
+    serve_long_foreign(&rt, rt.alloc(), LONG_HTTP)
+}
+
+#[test]
+fn a_byte_0_in_a_long_line_ends_a_guarded_link(rt: HostRuntime) -> Result<(), Fail> {
+    serve_long_foreign(&rt, rt.alloc(), LONG_ZERO)
 }
 
 /// The most bytes that are taken of three lines, what is replied, the numbers that are named, and how the link ends.

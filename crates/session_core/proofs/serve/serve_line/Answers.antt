@@ -4,7 +4,7 @@ use Rattle.line_text.specs.Reading.{Lines, line_failed}
 use Rattle.line_text.specs.Requests.{Requests}
 use Rattle.line_text.specs.declared.limits.LineFault.{LineFault}
 use Rattle.line_text.specs.declared.limits.Request.{Request}
-use Rattle.session_core.proofs.ServesLemmas.{serves_all, serves_fault, serves_http, serves_next, takes_some}
+use Rattle.session_core.proofs.ServesLemmas.{serves_all, serves_fault, serves_foreign, serves_next, takes_some}
 use Rattle.session_core.proofs.serve.serve_line.Goals as goal
 
 -- what a call did to a reader that keeps no fault
@@ -34,7 +34,7 @@ returns-then-is_warded_off-clause-serves g c first from to served =
     let call = rw c.in-Ok-Some.field-0-is at c.in-Ok-Some.ensures in
     let requests = requests_of c.args.lines.now c.next_request.new.self _ _ (Ok (Some c.in-Ok-Some.kind)) c.requires.goes_on call.requests in
     let source = source_of c.args.lines.now _ _ (Ok (Some c.in-Ok-Some.kind)) c.requires.goes_on call.source in
-    serves_http _ _ _ _ _ _ _ _ _ _ served _ _ _ requests source call.keeps_fault (sym c.is_warded_off.ensures ∙ c.if-is_warded_off.true)
+    serves_foreign _ _ _ _ _ _ _ _ _ _ served _ _ _ requests source call.keeps_fault (sym c.is_warded_off.ensures ∙ c.if-is_warded_off.true)
 
 pub returns-clause-serves : goal.returns-clause-serves
 returns-clause-serves g c first from to served =

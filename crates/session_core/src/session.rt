@@ -19,6 +19,7 @@ use crate::end::SessionEnd;
 use crate::fault::ReplyFault;
 use crate::handler::{Answered, LineHandler};
 use crate::look::look_for;
+use crate::named::Named;
 use crate::serve::serve;
 use crate::short::refuse_line;
 use epoch_store::{Ended, EpochReader, Store};
@@ -39,7 +40,7 @@ use work_claim::Gate;
 #[derive(Drop)]
 pub struct Session<T: Store> {
     reader: EpochReader<T>,
-    named: Vec<u32>,
+    named: Named,
     room: Room,
 }
 
@@ -48,7 +49,7 @@ impl<T: Store> Model for Session<T> {
 
     ghost Value = { Session };
 
-    ghost view = { λ s. record { seen = s.reader.seen; named = s.named.items } };
+    ghost view = { λ s. record { seen = s.reader.seen; named = s.named.numbers } };
 }
 
 impl<T: Store, R, G> LineHandler<ServeContext<'_, R, G>> for Session<T> {
@@ -93,21 +94,14 @@ impl<T: Store> Session<T> {
     {
         Ok(Session {
             reader,
-            named: Vec::new(alloc),
+            named: Named::none(),
             room: Room::with(alloc, 0)?,
         })
     }
 
-    /// The numbers of the epochs that the replies have named, in order.
-    pub fn numbers(&self) -> &[u32]
-        ensures { result.now ≡ self.now.named }
-    {
-        &self.named
-    }
-
-    /// The same, where no more lines are served.
-    pub fn into_numbers(self) -> Vec<u32>
-        ensures { result.items ≡ self.named }
+    /// The numbers of the epochs that the replies have named, where no more lines are served.
+    pub fn into_named(self) -> Named
+        ensures { result.numbers ≡ self.named }
     {
         self.named
     }
@@ -116,7 +110,7 @@ impl<T: Store> Session<T> {
     pub fn forget_numbers(&mut self)
         ensures { self.new ≡ record self.old { named = [] } }
     {
-        self.named.clear();
+        self.named = Named::none();
     }
 
     /// Serves a link. The numbers that its replies name are added to those of before.
@@ -178,8 +172,7 @@ impl<T: Store> Session<T> {
         }
     }
 
-    /// Looks for a request, replies to it at the last epoch that is seen then, and adds its number. The room for the number
-    /// is taken before the look.
+    /// Looks for a request, replies to it at the last epoch that is seen then, and adds its number.
     fn reply<R: Threads + Wait + Clock + Sync, G: Gate, K: Sink>(
         &mut self,
         context: &ServeContext<'_, R, G>,
@@ -192,13 +185,10 @@ impl<T: Store> Session<T> {
         ensures { AnswersRequest (scene_of context.now.graph.now T.origin context.now.budget)
             request.now self.old self.new (K.state to.old) (K.state to.new) result }
     {
-        if let Err(want) = self.named.reserve(1) {
-            return Err(ReplyFault::OutOfMemory(want.into()));
-        }
         let looked = look_for(&mut self.reader, context.workers.rt(), request);
         let replied = context.reply(&self.reader, &looked, request, &mut self.room, to);
         if !matches!(replied, Err(ReplyFault::OutOfMemory(_))) {
-            self.named.push_reserved(looked.number());
+            self.named = self.named.with(looked.number());
         }
         replied
     }

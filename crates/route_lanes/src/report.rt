@@ -1,6 +1,6 @@
 ghost use Rattle.std.specs.Prelude.{◌≡◌};
 
-use session_core::SessionEnd;
+use session_core::{Named, SessionEnd};
 use std::marker::Model;
 
 /// What became of a lane.
@@ -8,7 +8,7 @@ use std::marker::Model;
 pub struct LaneReport {
     pub(crate) end: SessionEnd,
     pub(crate) last: u32,
-    pub(crate) numbers: Vec<u32>,
+    pub(crate) named: Named,
 }
 
 impl Model for LaneReport {
@@ -16,7 +16,7 @@ impl Model for LaneReport {
 
     ghost Value = { LaneReport };
 
-    ghost view = { λ r. record { end = r.end; last = r.last; numbers = r.numbers.items } };
+    ghost view = { λ r. record { end = r.end; last = r.last; numbers = r.named.numbers } };
 }
 
 impl LaneReport {
@@ -32,12 +32,5 @@ impl LaneReport {
         ensures { result ≡ self.now.last }
     {
         self.last
-    }
-
-    /// The numbers of the epochs that its replies named, in order. The operator's lane has none.
-    pub fn numbers(&self) -> &[u32]
-        ensures { result.now ≡ self.now.numbers }
-    {
-        &self.numbers
     }
 }

@@ -15,8 +15,7 @@ use arc_graph::Weights;
 use epoch_store::{Chronicle, Store, make};
 use out_of_memory::OutOfMemory;
 use route_io::{Link, Sink, Source};
-use session_core::{ServeContext, SessionEnd};
-use std::alloc::Global;
+use session_core::{Named, ServeContext, SessionEnd};
 use std::marker::Brand;
 use std::sync::Wait;
 use std::thread::Threads;
@@ -93,13 +92,7 @@ fn run_in_store<
     match session_lanes(context.alloc, readers, SessionEnd::Ended) {
         Ok(mut sessions) => {
             serve_links(context, &mut operator, &mut sessions, links);
-            Ok(report_lanes(
-                context.workers.rt(),
-                context.alloc,
-                reports,
-                operator,
-                sessions,
-            ))
+            Ok(report_lanes(context.workers.rt(), reports, operator, sessions))
         }
         Err(want) => {
             let OperatorLane { store, end: _ } = operator;
@@ -112,7 +105,6 @@ fn run_in_store<
 /// Closes and ends the store, and makes the lanes' reports, in a list that is empty before.
 fn report_lanes<R: Wait, T: Store>(
     rt: &R,
-    alloc: Global,
     mut reports: Vec<LaneReport>,
     operator: OperatorLane<T, SessionEnd>,
     mut sessions: Vec<SessionLane<T, SessionEnd>>,
@@ -132,7 +124,7 @@ fn report_lanes<R: Wait, T: Store>(
     reports.push_reserved(LaneReport {
         end,
         last,
-        numbers: Vec::new(alloc),
+        named: Named::none(),
     });
     report_sessions(reports, sessions, last)
 }

@@ -47,8 +47,8 @@ impl<T: Store> SessionLane<T, SessionEnd> {
         ensures { result ≡ report_of last self }
     {
         let SessionLane { session, end } = self;
-        let numbers = session.into_numbers();
-        LaneReport { end, last, numbers }
+        let named = session.into_named();
+        LaneReport { end, last, named }
     }
 }
 

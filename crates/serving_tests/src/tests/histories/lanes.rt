@@ -160,19 +160,26 @@ fn compare(
     link: &SlowLink,
     asked: &[Asked],
 ) -> Result<(), Fail> {
-    assert_numbered(rt, history.name, report, asked.len());
-    let numbers = report.numbers();
-    let wanted = wanted_lines(alloc, history, replay, numbers, asked)?;
-    assert_lines(rt, history.name, from_utf8(link.to.sent())?, &wanted);
+    let (name, text) = (history.name, from_utf8(link.to.sent())?);
+    let numbers = numbers_of(alloc, text)?;
+    assert!(rt; report.end() == SessionEnd::Ended, "{name}: the end");
+    assert!(rt; numbers.is_sorted(), "{name}: numbers fall");
+    assert!(rt; numbers.len() == asked.len(), "{name}: numbers");
+    let wanted = wanted_lines(alloc, history, replay, &numbers, asked)?;
+    assert_lines(rt, name, text, &wanted);
     Ok(())
 }
 
-/// A lane that has ended has named so many numbers, which never fall.
-fn assert_numbered(rt: &impl Abort, name: u64, report: &LaneReport, count: usize) {
-    let numbers = report.numbers();
-    assert!(rt; report.end() == SessionEnd::Ended, "{name}: the end");
-    assert!(rt; numbers.is_sorted(), "{name}: numbers fall");
-    assert!(rt; numbers.len() == count, "{name}: numbers");
+/// The numbers that replies name, each in its first line; the lines of costs and of walks name none.
+fn numbers_of(alloc: Global, text: &str) -> Result<Vec<u32>, Fail> {
+    let mut numbers = Vec::new(alloc);
+    for line in text.lines() {
+        if !line.starts_with('v') && !line.starts_with('p') {
+            let word = line.split(' ').nth(1).ok_or("a number")?;
+            numbers.push(word.parse()?)?;
+        }
+    }
+    Ok(numbers)
 }
 
 /// The lines that are wanted, where the replies name these numbers.

@@ -39,12 +39,10 @@ struct Row<'r> {
     before: Before,
     replies: &'r str,
     end: SessionEnd,
-    /// The numbers of the epochs that the replies name.
-    numbers: &'r [u32],
 }
 
 /// Nothing is published, and the link ends as the input does, or by `bye`.
-fn ended<'r>(replies: &'r str, numbers: &'r [u32]) -> Row<'r> {
+fn ended<'r>(replies: &'r str) -> Row<'r> {
     Row {
         budget: 10_000_000,
         bytes: u64::MAX,
@@ -53,61 +51,54 @@ fn ended<'r>(replies: &'r str, numbers: &'r [u32]) -> Row<'r> {
         before: Before::Stays,
         replies,
         end: SessionEnd::Ended,
-        numbers,
     }
 }
 
 /// The reply to `q 1 4`.
 const WALKS: &str = "r 0 1 4 2\np 2 8 2 1 3\np 4 2 2 2 4\n";
 
-/// The budget of each query, what is sent, what is replied, and the numbers that are named.
-type Ended = (u32, &'static str, &'static str, &'static [u32]);
+/// The budget of each query, what is sent, and what is replied.
+type Ended = (u32, &'static str, &'static str);
 
 const ENDED: &[Ended] = &[
-    (4, "", "", &[]),
+    (4, "", ""),
     (
         5,
         "q 5 1\nq 1\n\nhello\n \tq  1\t4 \n",
         "x 0 5 1 node\nx line\nx line\nr 0 1 4 2\np 2 8 2 1 3\np 4 2 2 2 4\n",
-        &[0, 0],
     ),
     (
         5,
         "c 1 4\nc 4 1\nq 4 4\nc 1 0",
         "r 0 1 4 2\nv 2 8\nv 4 2\nr 0 4 1 0\nr 0 4 4 1\np 0 0 0\nx 0 1 0 node\n",
-        &[0, 0, 0, 0],
     ),
-    (4, "c 1 4\n", "x 0 1 4 budget\n", &[0]),
+    (4, "c 1 4\n", "x 0 1 4 budget\n"),
     (
         5,
         "l 1 4 3 -\nl 1 4 3 3\nl 1 4 - -\nl 1 4 3\nl 5 1 - -\n",
         "l 0 1 4 3 - 1\np 2 8 2 1 3\nl 0 1 4 3 3 0\nl 0 1 4 - - 2\np 2 8 2 1 3\np 4 2 2 2 4\nx line\nx 0 5 1 node\n",
-        &[0, 0, 0, 0],
     ),
     (
         5,
         "l 1 4 2 -\nl 1 4 1 -\n",
         "l 0 1 4 2 - 1\np 2 8 2 1 3\nl 0 1 4 1 - 0\n",
-        &[0, 0],
     ),
     (
         4,
         "q 1 4\nl 1 4 3 -\n",
         "x 0 1 4 budget\nl 0 1 4 3 - 1\np 2 8 2 1 3\n",
-        &[0, 0],
     ),
-    (3, "l 1 4 3 -\n", "x 0 1 4 budget\n", &[0]),
-    (4, "e\nbye\ne\nhello", "k 0\n", &[0]),
-    (4, "e\nbye", "k 0\n", &[0]),
-    (4, "e\nw 0", "k 0\nk 0\n", &[0, 0]),
-    (4, "e\r\n\r\n\r\r\nbye\r\ne\r\n", "k 0\nx line\n", &[0]),
+    (3, "l 1 4 3 -\n", "x 0 1 4 budget\n"),
+    (4, "e\nbye\ne\nhello", "k 0\n"),
+    (4, "e\nbye", "k 0\n"),
+    (4, "e\nw 0", "k 0\nk 0\n"),
+    (4, "e\r\n\r\n\r\r\nbye\r\ne\r\n", "k 0\nx line\n"),
     (
         4,
         "e 1\nw\nw 4294967296\nw 0 0\nbye now\npublish\ns 1 1 1",
         "x line\nx line\nx line\nx line\nx line\nx line\nx line\n",
-        &[],
     ),
-    (4, "\n \t\r\n\n", "", &[]),
+    (4, "\n \t\r\n\n", ""),
 ];
 
 fn ended_rows() -> &'static [Ended] {
@@ -120,10 +111,10 @@ fn serve_ended<R: Threads + Wait + Clock + Sync + Abort>(
     alloc: Global,
     rows: &[Ended],
 ) -> Result<(), Fail> {
-    for &(budget, text, replies, numbers) in rows {
+    for &(budget, text, replies) in rows {
         let row = Row {
             budget,
-            ..ended(replies, numbers)
+            ..ended(replies)
         };
         serve_row(rt, alloc, &whole(text), &row)?;
         serve_row(rt, alloc, &in_pieces(text, 1, 1), &row)?;
@@ -150,7 +141,7 @@ fn serve_long<R: Threads + Wait + Clock + Sync + Abort>(rt: &R, alloc: Global) -
         text: &text,
         ..whole("")
     };
-    let row = ended("k 0\nk 0\nx line\nx line\nx line\n", &[0, 0]);
+    let row = ended("k 0\nk 0\nx line\nx line\nx line\n");
     serve_row(rt, alloc, &feed, &row)
 }
 
@@ -159,25 +150,24 @@ fn a_line_has_at_most_1024_bytes(rt: HostRuntime) -> Result<(), Fail> {
     serve_long(&rt, rt.alloc())
 }
 
-/// What is sent over a guarded link, what is replied, and the numbers that are named.
-const GUARDED: &[(&str, &str, &[u32])] = &[
-    ("GET / HTTP/1.1\r\ne\n", "", &[]),
-    ("e\nGET /\tHTTP/1.0 \t\r\ne\n", "k 0\n", &[0]),
-    ("e\nHTTP/\ne\n", "k 0\n", &[0]),
-    ("e\nGET / HTTP/2", "k 0\n", &[0]),
-    ("HTTP/1.1 200 OK\ne\n", "x line\nk 0\n", &[0]),
-    ("GET / HTTP/1.1 x\r\r\ne\n", "x line\nk 0\n", &[0]),
-    ("GET / HTTP/1.1 \r\r\ne\n", "x line\nk 0\n", &[0]),
+/// What is sent over a guarded link, and what is replied.
+const GUARDED: &[(&str, &str)] = &[
+    ("GET / HTTP/1.1\r\ne\n", ""),
+    ("e\nGET /\tHTTP/1.0 \t\r\ne\n", "k 0\n"),
+    ("e\nHTTP/\ne\n", "k 0\n"),
+    ("e\nGET / HTTP/2", "k 0\n"),
+    ("HTTP/1.1 200 OK\ne\n", "x line\nk 0\n"),
+    ("GET / HTTP/1.1 x\r\r\ne\n", "x line\nk 0\n"),
+    ("GET / HTTP/1.1 \r\r\ne\n", "x line\nk 0\n"),
     (
         "GET /HTTP/1.1\nHTTP\nhttp/1.1\nHTHTTP/\ne\n",
         "x line\nx line\nx line\nx line\nk 0\n",
-        &[0],
     ),
-    ("e\nbye\nGET / HTTP/1.1\n", "k 0\n", &[0]),
-    ("\0\ne\n", "", &[]),
-    ("e\n\u{16}\u{3}\u{1}\0\u{4d}\ne\n", "k 0\n", &[0]),
-    ("\u{16}\u{3}\u{1}\u{2}\n\u{1}\0 x\r\ne\n", "x line\n", &[]),
-    ("e\ne\0", "k 0\n", &[0]),
+    ("e\nbye\nGET / HTTP/1.1\n", "k 0\n"),
+    ("\0\ne\n", ""),
+    ("e\n\u{16}\u{3}\u{1}\0\u{4d}\ne\n", "k 0\n"),
+    ("\u{16}\u{3}\u{1}\u{2}\n\u{1}\0 x\r\ne\n", "x line\n"),
+    ("e\ne\0", "k 0\n"),
 ];
 
 /// Each row, in pieces of several sizes; and without a guard each line has its reply.
@@ -185,16 +175,16 @@ fn serve_guarded<R: Threads + Wait + Clock + Sync + Abort>(
     rt: &R,
     alloc: Global,
 ) -> Result<(), Fail> {
-    for &(text, replies, numbers) in GUARDED {
+    for &(text, replies) in GUARDED {
         let row = Row {
             guarded: true,
-            ..ended(replies, numbers)
+            ..ended(replies)
         };
         for piece in 1..9 {
             serve_row(rt, alloc, &in_pieces(text, piece, usize::MAX), &row)?;
         }
     }
-    let row = ended("x line\nk 0\n", &[0]);
+    let row = ended("x line\nk 0\n");
     serve_row(rt, alloc, &whole("GET / HTTP/1.1\r\ne\n"), &row)
 }
 
@@ -225,7 +215,7 @@ fn serve_long_foreign<R: Threads + Wait + Clock + Sync + Abort>(
     let text = text_of(alloc, lines)?;
     let guarded = Row {
         guarded: true,
-        ..ended("x line\n", &[])
+        ..ended("x line\n")
     };
     for piece in [1, 7, 1024, 1025, 1506, 1507, 1508, 1511, 5000] {
         let feed = Feed {
@@ -233,7 +223,7 @@ fn serve_long_foreign<R: Threads + Wait + Clock + Sync + Abort>(
             ..in_pieces("", piece, usize::MAX)
         };
         serve_row(rt, alloc, &feed, &guarded)?;
-        serve_row(rt, alloc, &feed, &ended("x line\nx line\nk 0\n", &[0]))?;
+        serve_row(rt, alloc, &feed, &ended("x line\nx line\nk 0\n"))?;
     }
     Ok(())
 }
@@ -248,24 +238,24 @@ fn a_byte_0_in_a_long_line_ends_a_guarded_link(rt: HostRuntime) -> Result<(), Fa
     serve_long_foreign(&rt, rt.alloc(), LONG_ZERO)
 }
 
-/// The most bytes that are taken of three lines, what is replied, the numbers that are named, and how the link ends.
-const TAKEN: &[(u64, &str, &[u32], SessionEnd)] = &[
-    (7, "k 0\nk 0\nk 0\n", &[0, 0, 0], SessionEnd::Ended),
-    (6, "k 0\nk 0\nk 0\n", &[0, 0, 0], SessionEnd::TooLong),
-    (5, "k 0\nk 0\n", &[0, 0], SessionEnd::TooLong),
-    (4, "k 0\nk 0\n", &[0, 0], SessionEnd::TooLong),
-    (0, "", &[], SessionEnd::TooLong),
+/// The most bytes that are taken of three lines, what is replied, and how the link ends.
+const TAKEN: &[(u64, &str, SessionEnd)] = &[
+    (7, "k 0\nk 0\nk 0\n", SessionEnd::Ended),
+    (6, "k 0\nk 0\nk 0\n", SessionEnd::TooLong),
+    (5, "k 0\nk 0\n", SessionEnd::TooLong),
+    (4, "k 0\nk 0\n", SessionEnd::TooLong),
+    (0, "", SessionEnd::TooLong),
 ];
 
 fn serve_taken<R: Threads + Wait + Clock + Sync + Abort>(
     rt: &R,
     alloc: Global,
 ) -> Result<(), Fail> {
-    for &(bytes, replies, numbers, end) in TAKEN {
+    for &(bytes, replies, end) in TAKEN {
         let row = Row {
             bytes,
             end,
-            ..ended(replies, numbers)
+            ..ended(replies)
         };
         serve_row(rt, alloc, &whole("e\ne\ne\n"), &row)?;
     }
@@ -277,28 +267,28 @@ fn so_many_bytes_are_taken(rt: HostRuntime) -> Result<(), Fail> {
     serve_taken(&rt, rt.alloc())
 }
 
-/// The read that fails, what is replied, the numbers that are named, and how the link ends.
-const FAILED_READS: &[(u64, &str, &[u32], SessionEnd)] = &[
-    (0, "", &[], SessionEnd::ReadFault),
-    (1, "", &[], SessionEnd::ReadFault),
-    (2, "k 0\n", &[0], SessionEnd::ReadFault),
-    (3, "k 0\n", &[0], SessionEnd::ReadFault),
-    (4, "k 0\nk 0\n", &[0, 0], SessionEnd::ReadFault),
-    (5, "k 0\nk 0\n", &[0, 0], SessionEnd::Ended),
+/// The read that fails, what is replied, and how the link ends.
+const FAILED_READS: &[(u64, &str, SessionEnd)] = &[
+    (0, "", SessionEnd::ReadFault),
+    (1, "", SessionEnd::ReadFault),
+    (2, "k 0\n", SessionEnd::ReadFault),
+    (3, "k 0\n", SessionEnd::ReadFault),
+    (4, "k 0\nk 0\n", SessionEnd::ReadFault),
+    (5, "k 0\nk 0\n", SessionEnd::Ended),
 ];
 
 fn serve_failed_reads<R: Threads + Wait + Clock + Sync + Abort>(
     rt: &R,
     alloc: Global,
 ) -> Result<(), Fail> {
-    for &(read, replies, numbers, end) in FAILED_READS {
+    for &(read, replies, end) in FAILED_READS {
         let feed = Feed {
             fails: &[read],
             ..in_pieces("e\ne\n", 1, usize::MAX)
         };
         let row = Row {
             end,
-            ..ended(replies, numbers)
+            ..ended(replies)
         };
         serve_row(rt, alloc, &feed, &row)?;
     }
@@ -311,7 +301,7 @@ fn a_failed_read_ends_a_link(rt: HostRuntime) -> Result<(), Fail> {
     serve_failed_reads(&rt, rt.alloc())
 }
 
-/// A sink that takes so many bytes has the front of the reply, and its number is named.
+/// A sink that takes so many bytes has the front of the reply.
 fn serve_room<R: Threads + Wait + Clock + Sync + Abort>(
     rt: &R,
     alloc: Global,
@@ -328,7 +318,7 @@ fn serve_room<R: Threads + Wait + Clock + Sync + Abort>(
     };
     let row = Row {
         end,
-        ..ended(WALKS.get(..room).unwrap_or(WALKS), &[0])
+        ..ended(WALKS.get(..room).unwrap_or(WALKS))
     };
     serve_row(rt, alloc, &feed, &row)
 }
@@ -352,7 +342,7 @@ fn a_failed_write_ends_a_link(rt: HostRuntime) -> Result<(), Fail> {
 fn a_closed_store_ends_a_wait(rt: HostRuntime) -> Result<(), Fail> {
     let row = Row {
         before: Before::Closes,
-        ..ended("k 0\nx 0 closed\nr 0 1 2 1\nv 1 4\nk 0\n", &[0, 0, 0, 0])
+        ..ended("k 0\nx 0 closed\nr 0 1 2 1\nv 1 4\nk 0\n")
     };
     serve_row(&rt, rt.alloc(), &whole("w 0\nw 9\nc 1 2\ne\n"), &row)
 }
@@ -362,7 +352,7 @@ fn a_closed_store_ends_a_wait(rt: HostRuntime) -> Result<(), Fail> {
 fn each_line_has_a_look_of_its_own(rt: HostRuntime) -> Result<(), Fail> {
     let row = Row {
         publishes_at: 1,
-        ..ended("k 0\nk 1\n", &[0, 1])
+        ..ended("k 0\nk 1\n")
     };
     serve_row(&rt, rt.alloc(), &in_pieces("e\ne\n", 2, usize::MAX), &row)
 }
@@ -449,11 +439,6 @@ fn serve<S: Store, R: Threads + Wait + Clock + Sync + Abort, F: Source>(
         row.replies
     );
     assert!(rt; end == row.end, "the end behind {:?}", row.replies);
-    assert!(rt;
-        session.numbers() == row.numbers,
-        "the numbers behind {:?}",
-        row.replies
-    );
     Ok(())
 }
 

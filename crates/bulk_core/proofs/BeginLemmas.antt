@@ -1,12 +1,11 @@
 -- How a round begins: the next spots leave the queue, and are settled.
-use Rattle.std.proofs.Common.{◌≡◌, ◌≢◌, ◌⊎◌, ◌↔◌, ℕ, ◌+◌, ◌<◌, ◌≤◌, List, [], ◌∷◌, length, length-take, map, take, inl, inr, refl, sym, ap, arith, Contains}
-use Rattle.std.specs.Prelude.{Ok, Result}
-use Rattle.std.proofs.lemmas.List.{length-map, nil_from_length, take_all}
+use Rattle.std.proofs.Common.{◌≡◌, ◌≢◌, ◌⊎◌, ◌↔◌, ℕ, ◌+◌, ◌<◌, ◌≤◌, List, [], ◌∷◌, length, map, inl, inr, refl, sym, ap, ◌∙◌, arith, Contains, IfOk, Result, Ok, Err}
+use Rattle.std.proofs.lemmas.List.{length-map, nil_from_length}
 use Rattle.std.proofs.lemmas.List.Elements.{Contains-get_or}
 use Rattle.std.proofs.lemmas.Simd.{map-map}
 use Rattle.list_laws.proofs.Members.{all_from_in, of_map}
 use Rattle.list_laws.proofs.OnceLaws.{empty_if_none}
-use Rattle.list_laws.proofs.Pairs.{pairs_take}
+use Rattle.settled_fronts.specs.Settling.{CanSettle}
 use Rattle.waiting_queue.specs.Taking.{Counts, TakesOpenSpots}
 use Rattle.waiting_item.specs.Waiting.{spot_of}
 use Rattle.out_of_memory.specs.declared.OutOfMemory.{OutOfMemory}
@@ -18,16 +17,34 @@ use Rattle.bulk_rounds.specs.Kept.{IsFrom, IsKeptItem}
 use Rattle.bulk_rounds.specs.Taking.{CountsSettled, IsNextIn, ListsNext}
 use Rattle.bulk_rounds.proofs.KeptLemmas.{kept_as, kept_on, lists_next, loses_spent, next_apart, next_unsettled, none_more, waiting_spares_next}
 use Rattle.bulk_rounds.proofs.SpentLemmas.{ascending_once, spot_by_parts}
-use Rattle.bulk_core.specs.Kept.{IsKeptCore, TakesWaiting, settled_of}
-use Rattle.bulk_core.specs.Settled.{CanSettle, IsSpentBy, Settled, SettlesSome}
+use Rattle.bulk_core.specs.Kept.{IsKeptCore, TakesWaiting, answer_of, settled_of}
+use Rattle.bulk_core.specs.Settled.{IsSpentBy, Settled, SettlesMore}
 use Rattle.bulk_core.proofs.KeptLemmas.{kept_core}
-use Rattle.bulk_core.proofs.ListLemmas.{of_take}
 use Rattle.bulk_core.proofs.SpentLemmas.{open_alike}
 
 -- a step was counted where something was taken
 counted_some : {X : Type 0} (xs : List X) (old new : ℕ) → length xs ≢ 0 → Counts xs old new → new ≡ old + 1
 counted_some [] old new some counts = absurd (some refl)
 counted_some (x ∷ xs) old new some counts = counts
+
+-- and none where nothing was
+pub counts_none : {base : Core} {X : Type 0} (xs : List X) (old new : ℕ) → length xs ≡ 0 → Counts xs old new → CountsRound base (Ok Done) old new
+counts_none [] old new none same = record {
+  counted = λ begun is other. absurd (other cc);
+  uncounted = λ _. same;
+  at_most_one = omega (arith, same);
+  no_less = omega (arith, same);
+  some_open = λ more. absurd (omega (arith, more, same));
+}
+counts_none (x ∷ xs) old new none counts = absurd (omega (arith, none))
+
+-- where each answer is another than that none is open, so is this
+pub other_answer : {Search : Type 0} (result : Result (Search × Begun) OutOfMemory) → IfOk result (λ r. r.1 ≢ Done) → answer_of result ≢ Ok Done
+other_answer (Ok r) other is = other cc
+other_answer (Err _) other wrong = cc
+
+pub still_some : {m n : ℕ} → m ≡ n → m ≢ 0 → n ≢ 0
+still_some same some none = some (same ∙ none)
 
 -- ---- the next spots leave the queue
 
@@ -95,44 +112,46 @@ module _ {base now : Core} (takes : TakesWaiting base now) where
       → CountsRound base result old new
   counts_taken result old new other some counts = let more = counted_some now.taken old new some counts in search (arith, some_next some)
 
-  -- ---- they are settled one after another
+  -- ---- they are settled
 
-  pub can_settle_taken : CanSettle (settled_of now) now.taken
+  pub can_settle_taken : CanSettle (settled_of now).fronts now.taken
   can_settle_taken = record {
     nodes = λ x there. let (i, kept, is) = taken_item x there in rw (takes.same_search.nodes, is) kept.node;
-    uncovered = λ x there h. (is_next x there).is_open.unspent (inl (record { by = h.by; settled = rw takes.settled at h.contains; at_most = h.at_most }));
-    spares = λ x there e e_in. let (i, kept, is) = taken_item x there in rw is (kept.spares e (rw (takes.settled, is) at e_in));
-    apart = λ x y x_in y_in node below. spot_by_parts x y node (next_apart base x y (is_next x x_in) (is_next y y_in) below);
-    once = ascending_once now.taken next_taken.ascending;
+    admits = λ v. record {
+      uncovered = λ x there at h. (is_next x there).is_open.unspent
+          (inl (record { by = h.by; settled = rw (← at, takes.settled) at h.contains; at_most = h.at_most }));
+      spares = λ x there at e e_in. let (i, kept, is) = taken_item x there in rw is (kept.spares e (rw (← at, takes.settled, is) at e_in));
+    };
+    apart = record {
+      apart = λ x y x_in y_in node below. spot_by_parts x y node (next_apart base x y (is_next x x_in) (is_next y y_in) below);
+      once = ascending_once now.taken next_taken.ascending;
+    };
   }
 
-  module _ {later : Settled} {old new : ℕ} {took : List Item} (some : SettlesSome (settled_of now) later now.taken old new)
-      (within : old + length now.taken ≤ now.budget) (was : IsKeptCore now old took) where
+  module _ {later : Settled} {count : ℕ} {took : List Item} (more : SettlesMore (settled_of now) later now.taken)
+      (within : count + length now.taken ≤ now.budget) (was : IsKeptCore now count took) where
     abbrev after : Core
     after = record now { nodes = later.fronts.nodes; target = later.target; limit = later.limit; settled = later.fronts.costs }
 
     pub same_core : SameSearch now after
-    same_core = search some.first.bounds
+    same_core = record { nodes = more.fronts.nodes; criteria = refl; start = refl; target = more.target; limit = more.limit; budget = refl }
 
-    -- what a core keeps stays so, however many are settled
-    pub kept_settling : IsKeptCore after new took
-    kept_settling = kept_core same_core (take some.many now.taken) some.first.settled was
-        (kept_on same_core (take some.many now.taken) some.first.settled old new some.counted
-        (omega (arith, some.counted, length-take some.many now.taken, within))
-        (pairs_take ◌≢◌ some.many now.taken (ascending_once now.taken next_taken.ascending))
-        (λ x there. rw takes.settled (next_unsettled base x (is_next x (of_take some.many now.taken x there))))
+    -- what a core keeps stays so
+    pub kept_settling : {new : ℕ} → new ≡ count + length now.taken → IsKeptCore after new took
+    kept_settling {new} all = kept_core same_core now.taken more.fronts.settled was
+        (kept_on same_core now.taken more.fronts.settled count new all (omega (arith, all, within)) (ascending_once now.taken next_taken.ascending)
+        (λ x there. rw takes.settled (next_unsettled base x (is_next x there)))
         (λ i there.
         let waited = (takes.queue.stays i there).0 in
-        (was.kept.items i there, λ y y_in. waiting_spares_next base i.spot y (i, waited, refl) (is_next y (of_take some.many now.taken y y_in))))
+        (was.kept.items i there, λ y y_in. waiting_spares_next base i.spot y (i, waited, refl) (is_next y y_in)))
         was.kept) was.from
 
-    pub takes_next : length now.taken ≢ 0 → new ≡ old + length now.taken → TakesNext base after
-    takes_next some_taken all =
+    pub takes_next : length now.taken ≢ 0 → TakesNext base after
+    takes_next some_taken =
         let left = loses_spent base (open_alike base) takes.took now.queue takes.queue after both refl (λ x. rw takes.taken at (settled x)) in
         search (arith, both, some_next some_taken, next_taken, settled, counts_before was.kept.counted) where
           both : SameSearch base after
           both = let first = takes.same_search in let second = same_core in grind arith
 
           settled : (x : Spot) → IsSettledIn after x ↔ (IsSettledIn base x ⊎ Contains now.taken x)
-          settled x = let whole = take_all some.many now.taken (omega (arith, all, some.counted, length-take some.many now.taken)) in
-              rw (takes.settled, whole) at (some.first.settled x)
+          settled x = rw takes.settled at (more.fronts.settled x)

@@ -1,11 +1,12 @@
 -- What a core of this crate keeps, and what its steps change.
-use Rattle.std.specs.Prelude.{◌≡◌, ◌≢◌, ℕ, ◌≤◌, List, All, Contains, map}
+use Rattle.std.specs.Prelude.{◌≡◌, ◌≢◌, ℕ, ◌≤◌, List, Result, Ok, Err, All, Contains, map}
 use Rattle.bulk_core.specs.Settled.{IsSpentBy, Settled}
 use Rattle.bulk_rounds.specs.declared.begin.Begun.{Begun}
 use Rattle.bulk_rounds.specs.declared.begin.Begun.TheVariants.{Done}
 use Rattle.bulk_rounds.specs.Begins.{BeginsAs}
 use Rattle.bulk_rounds.specs.Cores.{Core, Item, SameSearch, Spot}
 use Rattle.bulk_rounds.specs.Kept.{IsFrom, IsKept, IsKeptItem}
+use Rattle.out_of_memory.specs.declared.OutOfMemory.{OutOfMemory}
 use Rattle.road_network.specs.Limits.{max_budget}
 use Rattle.waiting_queue.specs.Taking.{TakesOpenSpots}
 use Rattle.waiting_item.specs.Waiting.{AreCriteria, spot_of}
@@ -43,6 +44,11 @@ pub record TakesWaiting (before after : Core) : Type 0 where
   pub taken : after.taken ≡ map spot_of took
   pub queue : TakesOpenSpots spot_of (λ x. ¬ IsSpentBy (settled_of before) x) before.queue took after.queue
   pub items : (i : Item) → Contains before.queue i → IsKeptItem before i
+
+-- the answer alone, of a call that gives the search back beside it
+abbrev pub answer_of : {Search : Type 0} → Result (Search × Begun) OutOfMemory → Result Begun OutOfMemory
+answer_of (Ok r) = Ok r.1
+answer_of (Err want) = Err want
 
 -- Where what was taken would be next, were it still in the queue, this is the answer of a round that begins; and some is.
 pub record SettlesWithin (before after : Core) (begun : Begun) : Type 0 where

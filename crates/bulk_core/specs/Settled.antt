@@ -1,10 +1,11 @@
 -- What is settled, and which spots it makes spent.
-use Rattle.std.specs.Prelude.{◌≡◌, ◌≢◌, ℕ, ◌+◌, ◌<◌, ◌≤◌, ◌⊎◌, ◌↔◌, List, ◌++◌, Option, length, slice_index, take, AllPairs, Contains}
+use Rattle.std.specs.Prelude.{◌≡◌, ℕ, ◌<◌, ◌≤◌, ◌⊎◌, List, Option, slice_index, Contains}
 use Rattle.bulk_rounds.specs.Cores.{Spot}
 use Rattle.cost_vector.specs.Costs.{AtMost, Dominates, Within, max_criteria, min_criteria}
 use Rattle.road_network.specs.Network.{IsNode}
 use Rattle.settled_front.specs.Fronts.{IsCovered}
 use Rattle.settled_fronts.specs.NodeFronts.{Fronts, costs_at}
+use Rattle.settled_fronts.specs.Settling.{SettlesAll}
 use Rattle.sweep_parts.specs.Limits.{IsGreatestWithin}
 
 -- the target, the limit, and the settled costs of all nodes
@@ -13,11 +14,11 @@ pub record Settled : Type 0 where
   pub limit : List (Option ℕ)
   pub fronts : Fronts
 
--- target, limit and nodes have stayed
-pub record SameBounds (before after : Settled) : Type 0 where
-  pub nodes : after.fronts.nodes ≡ before.fronts.nodes
+-- the spots are settled beside what was, and target and limit have stayed
+pub record SettlesMore (before after : Settled) (spots : List Spot) : Type 0 where
   pub target : after.target ≡ before.target
   pub limit : after.limit ≡ before.limit
+  pub fronts : SettlesAll before.fronts after.fronts spots
 
 -- ---- what is spent
 
@@ -36,32 +37,6 @@ IsBarredBy s c = (¬ Within s.limit c) ⊎ HasDominating (costs_at s.fronts s.ta
 -- the spot is covered or barred
 abbrev pub IsSpentBy : Settled → Spot → Type 0
 IsSpentBy s x = IsCovered (costs_at s.fronts x.node) x.cost ⊎ IsBarredBy s x.cost
-
--- ---- what is settled more
-
--- the spot is settled
-abbrev pub IsSettledBy : Settled → Spot → Type 0
-IsSettledBy s x = Contains (costs_at s.fronts x.node) x.cost
-
--- The spots are different ones of nodes, no settled cost there is at most theirs, and they dominate none; nor is the cost of one
--- of a node at most that of another.
-pub record CanSettle (s : Settled) (spots : List Spot) : Type 0 where
-  pub nodes : (x : Spot) → Contains spots x → IsNode s.fronts.nodes x.node
-  pub uncovered : (x : Spot) → Contains spots x → ¬ IsCovered (costs_at s.fronts x.node) x.cost
-  pub spares : (x : Spot) → Contains spots x → (e : List ℕ) → Contains (costs_at s.fronts x.node) e → ¬ Dominates x.cost e
-  pub apart : (x y : Spot) → Contains spots x → Contains spots y → x.node ≡ y.node → AtMost x.cost y.cost → x ≡ y
-  pub once : AllPairs ◌≢◌ spots
-
--- the first of the spots are settled now beside those that were
-pub record SettlesFirst (before after : Settled) (spots : List Spot) (many : ℕ) : Type 0 where
-  pub bounds : SameBounds before after
-  pub settled : (x : Spot) → IsSettledBy after x ↔ (IsSettledBy before x ⊎ Contains (take many spots) x)
-
--- so are some, and they are counted
-pub record SettlesSome (before after : Settled) (spots : List Spot) (old new : ℕ) : Type 0 where
-  pub many : ℕ
-  pub counted : new ≡ old + length (take many spots)
-  pub first : SettlesFirst before after spots many
 
 -- ---- how it is kept
 

@@ -1,12 +1,11 @@
 ghost use Rattle.std.specs.Prelude.{◌≡◌, ◌≢◌, ◌++◌, [], length, map, IfOk, OnErr};
-ghost use Rattle.bulk_core.specs.Kept.{SettlesWithin, TakesWaiting};
+ghost use Rattle.bulk_core.specs.Kept.{SettlesWithin, TakesWaiting, answer_of};
 ghost use Rattle.bulk_rounds.specs.Begins.{BeginsAs, CountsRound};
 ghost use Rattle.bulk_rounds.specs.Cores.{Core as Value, SameSearch};
 ghost use Rattle.bulk_core.specs.Settled.{IsSpentBy};
 ghost use Rattle.waiting_queue.specs.Taking.{Counts, TakesOpenSpots};
 ghost use Rattle.waiting_item.specs.Waiting.{as_waiting, spot_of};
 
-use crate::settled::settle_all;
 use crate::{Core, Settled};
 use bulk_rounds::Begun;
 use out_of_memory::OutOfMemory;
@@ -19,7 +18,7 @@ use waiting_item::Item;
 use waiting_queue::{Queue, Steps};
 use work_claim::{Gate, Workers};
 
-impl<const D: usize, F: SettledFront<D> + Sync> Core<D, F>
+impl<const D: usize, F: SettledFront<D> + Send + Sync> Core<D, F>
 where
     F::Cost: Send + Sync,
     <F::Cost as StoredCost<D>>::Part: Send + Sync,
@@ -27,21 +26,21 @@ where
     /// Begins a round: takes all open spots whose cost no open one dominates, and settles them. Memory is asked for before
     /// the budget is compared, and again only where it isn't passed.
     pub fn begin<R: Threads + Sync, G: Gate, L: Ledger>(
-        &mut self,
+        mut self,
         workers: &Workers<'_, R, G>,
         alloc: Global,
         steps: &mut Steps<L>,
-    ) -> Result<Begun, OutOfMemory>
-        requires between_rounds { self.old.taken ≡ [] }
-        ensures same_search { SameSearch self.old self.new }
-        ensures begun { IfOk result (BeginsAs self.old self.new) }
-        ensures steps { CountsRound self.old result steps.old steps.new }
+    ) -> Result<(Core<D, F>, Begun), OutOfMemory>
+        requires between_rounds { self.taken ≡ [] }
+        ensures same_search { IfOk result (λ r. SameSearch self r.0) }
+        ensures begun { IfOk result (λ r. BeginsAs self r.0 r.1) }
+        ensures steps { CountsRound self (answer_of result) steps.old steps.new }
     {
         self.take(workers, alloc, steps)?;
         if self.count_taken() == 0 {
-            return Ok(Begun::Done);
+            return Ok((self, Begun::Done));
         }
-        self.settle_taken()
+        self.settle_taken(workers)
     }
 
     /// Takes the next spots out of the queue; they aren't settled yet.
@@ -77,6 +76,29 @@ where
             }
         }
     }
+
+    /// Settles what was taken, unless more spots would be settled then than the budget allows.
+    fn settle_taken<R: Threads + Sync, G: Gate>(
+        self,
+        workers: &Workers<'_, R, G>,
+    ) -> Result<(Core<D, F>, Begun), OutOfMemory>
+        requires some { length self.taken ≢ 0 }
+        requires takes { (base : Value) × TakesWaiting base self }
+        ensures same_search { IfOk result (λ r. SameSearch self r.0) }
+        ensures settled { IfOk result (λ r. SettlesWithin self r.0 r.1) }
+    {
+        if self.count_taken() > self.budget as usize - self.count {
+            return Ok((self, Begun::Budget));
+        }
+        let count = self.count + self.count_taken();
+        let settled = self.settled.settle(workers, &self.taken)?;
+        let core = Core {
+            settled,
+            count,
+            ..self
+        };
+        Ok((core, Begun::Taken))
+    }
 }
 
 impl<const D: usize, F: SettledFront<D>> Core<D, F> {
@@ -85,20 +107,6 @@ impl<const D: usize, F: SettledFront<D>> Core<D, F> {
         ensures { result ≡ length self.now.taken }
     {
         self.taken().len()
-    }
-
-    /// Settles what was taken, unless more spots would be settled then than the budget allows.
-    fn settle_taken(&mut self) -> Result<Begun, OutOfMemory>
-        requires some { length self.old.taken ≢ 0 }
-        requires takes { (base : Value) × TakesWaiting base self.old }
-        ensures same_search { SameSearch self.old self.new }
-        ensures settled { IfOk result (SettlesWithin self.old self.new) }
-    {
-        if self.count_taken() > self.budget as usize - self.count {
-            return Ok(Begun::Budget);
-        }
-        settle_all(&mut self.settled, &mut self.count, &self.taken)?;
-        Ok(Begun::Taken)
     }
 }
 

@@ -1,10 +1,10 @@
-ghost use Rattle.std.specs.Prelude.{◌≡◌, ℕ, ◌+◌, ◌-◌, ◌<◌, ◌≤◌, ◌↔◌, [], ◌∷◌, length, map, All, IfOk, IsPermutation, IsTrue, OnErr};
-ghost use Rattle.bulk_core.specs.Settled.{CanSettle, IsBarredBy, HasDominating, HasDominatingAt, IsSpentBy, SameBounds, SettlesSome};
-ghost use Rattle.cost_vector.specs.Costs.{Dominates, max_criteria, min_criteria};
-ghost use Rattle.road_network.specs.Limits.{max_budget, max_nodes};
+ghost use Rattle.std.specs.Prelude.{◌≡◌, ℕ, ◌-◌, ◌<◌, ◌≤◌, ◌↔◌, [], length, map, IfOk, IsTrue};
+ghost use Rattle.bulk_core.specs.Settled.{IsBarredBy, HasDominating, HasDominatingAt, IsSpentBy, SettlesMore};
+ghost use Rattle.cost_vector.specs.Costs.{max_criteria, min_criteria};
+ghost use Rattle.road_network.specs.Limits.{max_nodes};
 ghost use Rattle.road_network.specs.Network.{IsNode};
-ghost use Rattle.settled_front.specs.Fronts.{IsCovered};
-ghost use Rattle.settled_fronts.specs.NodeFronts.{costs_at, SameElsewhere};
+ghost use Rattle.settled_fronts.specs.NodeFronts.{costs_at};
+ghost use Rattle.settled_fronts.specs.Settling.{CanSettle};
 ghost use Rattle.waiting_item.specs.Waiting.{AreCriteria, spot_in};
 
 use cost_vector::{CompactCost, Limit, NodeNo};
@@ -13,10 +13,12 @@ use settled_front::{NarrowFront, SettledFront};
 use settled_fronts::Fronts;
 use std::alloc::Global;
 use std::marker::Model;
+use std::thread::Threads;
 use stored_cost::StoredCost;
 use sweep_parts::{greatest_within, is_within};
 use waiting_item::Item;
-use waiting_queue::Look;
+use waiting_queue::{Look, labels_of_spots};
+use work_claim::{Gate, Workers};
 
 /// The settled costs of all nodes, the target and the limit: they tell which spots are spent.
 ///
@@ -78,29 +80,32 @@ impl<const D: usize, F: SettledFront<D>> Settled<D, F> {
             || has_dominating::<D, F>(self.fronts.front(self.target), cost)
     }
 
-    /// Settles a cost of a node.
-    pub(crate) fn push(&mut self, node: NodeNo, cost: &F::Cost) -> Result<(), OutOfMemory>
-        requires node { IsNode self.old.fronts.nodes node.0 }
-        requires uncovered { ¬ IsCovered (costs_at self.old.fronts node.0)
-            (F.Cost.components cost.now) }
-        requires spares { All (λ c. ¬ Dominates (F.Cost.components cost.now) c)
-            (costs_at self.old.fronts node.0) }
-        ensures bounds { SameBounds self.old self.new }
-        ensures elsewhere { SameElsewhere node.0 self.old.fronts self.new.fronts }
-        ensures pushed { IfOk result (λ _. IsPermutation
-            (F.Cost.components cost.now ∷ costs_at self.old.fronts node.0)
-            (costs_at self.new.fronts node.0)) }
-        ensures same { OnErr result
-            (costs_at self.new.fronts node.0 ≡ costs_at self.old.fronts node.0) }
-    {
-        self.fronts.push(node, cost)
-    }
-
     /// All that is settled.
     pub(crate) fn into_fronts(self) -> Fronts<D, F>
         ensures { result ≡ self.fronts }
     {
         self.fronts
+    }
+}
+
+impl<const D: usize, F: SettledFront<D> + Send> Settled<D, F>
+where
+    F::Cost: Send + Sync,
+    <F::Cost as StoredCost<D>>::Part: Send + Sync,
+{
+    /// Settles what these items say. Where they are many enough, the workers share it, each some of the fronts.
+    pub(crate) fn settle<R: Threads + Sync, G: Gate>(
+        self,
+        workers: &Workers<'_, R, G>,
+        items: &[Item<F::Cost>],
+    ) -> Result<Settled<D, F>, OutOfMemory>
+        requires { CanSettle self.fronts (map (spot_in F.Cost.components) items.now) }
+        ensures { IfOk result (λ after.
+            SettlesMore self after (map (spot_in F.Cost.components) items.now)) }
+    {
+        let workers = &workers.for_labels(labels_of_spots(items.len()));
+        let fronts = self.fronts.push_all(workers, items)?;
+        Ok(Settled { fronts, ..self })
     }
 }
 
@@ -125,25 +130,6 @@ impl<const D: usize, F: SettledFront<D>> Look<D, F::Cost> for Settled<D, F> {
     fn is_open(&self, item: &Item<F::Cost>) -> bool {
         !self.fronts.covers(item.node, &item.cost) && !self.bars(&item.cost)
     }
-}
-
-/// Settles these spots one after another, and counts them.
-pub(crate) fn settle_all<const D: usize, F: SettledFront<D>>(
-    settled: &mut Settled<D, F>,
-    count: &mut usize,
-    items: &[Item<F::Cost>],
-) -> Result<(), OutOfMemory>
-    requires apart { CanSettle settled.old (map (spot_in F.Cost.components) items.now) }
-    requires few { count.old + length items.now ≤ max_budget }
-    ensures some { SettlesSome settled.old settled.new
-        (map (spot_in F.Cost.components) items.now) count.old count.new }
-    ensures all { IfOk result (λ _. count.new ≡ count.old + length items.now) }
-{
-    for item in items {
-        settled.push(item.node, &item.cost)?;
-        *count += 1;
-    }
-    Ok(())
 }
 
 /// Whether some cost of the front dominates this one: where it does, it is at most the cost that is by one less in some

@@ -32,12 +32,6 @@ stored_more bound c costs more uncovered fits moved stored = record {
   fits = All-permutation (All (λ x. x < bound)) (c ∷ costs) more moved (All-cons (All (λ x. x < bound)) c costs fits stored.fits);
 }
 
--- and a push, whether or not there was memory for it
-pub stored_after : (bound : ℕ) (c : List ℕ) (costs more : Costs) (r : Result Unit OutOfMemory) → ¬ IsCovered costs c → All (λ x. x < bound) c
-    → IfOk r (λ _. IsPermutation (c ∷ costs) more) → OnErr r (more ≡ costs) → AreStored bound costs → AreStored bound more
-stored_after bound c costs more (Err _) uncovered fits moved same stored = subst (AreStored bound) (sym same) stored
-stored_after bound c costs more (Ok _) uncovered fits moved same stored = stored_more bound c costs more uncovered fits moved stored
-
 -- other lists of as many nodes
 restored : {d bound wide nodes : ℕ} {costs more : List Costs} → AreFronts d bound (record { nodes = nodes; costs = costs })
     → ((v : ℕ) → AreStored wide (get_or more v [])) → AreFronts d wide (record { nodes = nodes; costs = more })

@@ -102,22 +102,6 @@ impl<const D: usize, F: SettledFront<D>> Fronts<D, F> {
         self.fronts[self.places[node.0 as usize] as usize].covers(cost)
     }
 
-    /// Settles a cost that none of its node is at most, and that dominates none there.
-    pub fn push(&mut self, node: NodeNo, cost: &F::Cost) -> Result<(), OutOfMemory>
-        requires node { IsNode self.old.nodes node.0 }
-        requires uncovered { ¬ IsCovered (costs_at self.old node.0) (F.Cost.components cost.now) }
-        requires spares { All (λ c. ¬ Dominates (F.Cost.components cost.now) c)
-            (costs_at self.old node.0) }
-        ensures elsewhere { SameElsewhere node.0 self.old self.new }
-        ensures pushed { IfOk result (λ _. IsPermutation
-            (F.Cost.components cost.now ∷ costs_at self.old node.0) (costs_at self.new node.0)) }
-        ensures same { OnErr result (costs_at self.new node.0 ≡ costs_at self.old node.0) }
-    {
-        let place = reach::<D, F>(&mut self.places, &mut self.fronts, self.alloc, node)?;
-        let _read = cost.to_compact(); // a proof knows what there is room for of what is read
-        self.fronts[place].push(cost)
-    }
-
     /// The settled costs of a node, in ascending lexicographic order.
     pub fn costs_of(&self, alloc: Global, node: NodeNo) -> Result<Vec<CompactCost<D>>, OutOfMemory>
         requires { IsNode self.now.nodes node.0 }

@@ -85,7 +85,7 @@ fn find_all<R: Threads + Sync, G: Gate, L: Ledger>(
 /// Makes one round after another until all is found, in a search that was started.
 fn find<
     const D: usize,
-    F: NarrowFront<D> + SettledFront<D, Cost = NarrowCost<D>> + Sync,
+    F: NarrowFront<D> + SettledFront<D, Cost = NarrowCost<D>> + Send + Sync,
     R: Threads + Sync,
     G: Gate,
     L: Ledger,
@@ -99,7 +99,7 @@ fn find<
 ) -> Result<FoundAtWidth<D, F>, SearchFault>
 where
     F::Cost: StoredCost<D, Part = u32> + Send + Sync,
-    F::Wide: SettledFront<D, Cost = WideCost<D>> + Sync,
+    F::Wide: SettledFront<D, Cost = WideCost<D>> + Send + Sync,
     <F::Wide as SettledFront<D>>::Cost: StoredCost<D, Part = u64> + Send + Sync,
     requires query { IsQuery network.now query.now }
     requires criteria { network.now.criteria ≡ D }
@@ -115,10 +115,11 @@ where
     prove!(network.criteria() == D);
     let mut rounds = started?;
     'rounds: for _ in 0..query.budget + 1 {
-        match rounds.begin(workers, alloc, steps)? {
-            Begun::Done => return Ok(rounds.into_found(alloc, network, query)?),
+        let (next, begun) = rounds.begin(workers, alloc, steps)?;
+        match begun {
+            Begun::Done => return Ok(next.into_found(alloc, network, query)?),
             Begun::Budget => return Err(SearchFault::Budget),
-            Begun::Taken => rounds = rounds.finish(workers, alloc, network)?,
+            Begun::Taken => rounds = next.finish(workers, alloc, network)?,
         }
     }
     unreachable!()

@@ -1,4 +1,5 @@
 ghost use Rattle.std.specs.Prelude.{◌≡◌, ◌^◌, ◌<◌, [], length, map, All, Err, IfOk};
+ghost use Rattle.bulk_core.specs.Kept.{answer_of};
 ghost use Rattle.bulk_rounds.specs.Begins.{BeginsAs, CountsRound};
 ghost use Rattle.bulk_rounds.specs.Cores.{IsNewSearch};
 ghost use Rattle.bulk_rounds.specs.Standing.{IsSearchOf};
@@ -66,11 +67,26 @@ impl<const D: usize, F: SettledFront<D>> WidthRounds<D, F> {
     }
 }
 
-impl<const D: usize, F: SettledFront<D> + Sync> WidthRounds<D, F>
+impl<const D: usize, F: SettledFront<D> + Send + Sync> WidthRounds<D, F>
 where
     F::Cost: Send + Sync,
     <F::Cost as StoredCost<D>>::Part: Send + Sync,
 {
+    /// Begins a round.
+    fn begin<R: Threads + Sync, G: Gate, L: Ledger>(
+        self,
+        workers: &Workers<'_, R, G>,
+        alloc: Global,
+        steps: &mut Steps<L>,
+    ) -> Result<(WidthRounds<D, F>, Begun), OutOfMemory>
+        requires { self.core.taken ≡ [] }
+        ensures begun { IfOk result (λ r. BeginsAs self.core r.0.core r.1) }
+        ensures steps { CountsRound self.core (answer_of result) steps.old steps.new }
+    {
+        let (core, begun) = self.core.begin(workers, alloc, steps)?;
+        Ok((WidthRounds { core, ..self }, begun))
+    }
+
     /// Ends the open round: relaxes the arcs of what it has taken, but for those that lead straight back, merges what they give,
     /// and puts what is kept of it into the queue. Where a cost has no room at this width, all is as it was.
     fn finish<R: Threads + Sync, G: Gate>(
@@ -173,26 +189,35 @@ where
     }
 }
 
-impl<const D: usize, F: NarrowFront<D> + SettledFront<D, Cost = NarrowCost<D>> + Sync> Rounds<D, F>
+impl<
+    const D: usize,
+    F: NarrowFront<D> + SettledFront<D, Cost = NarrowCost<D>> + Send + Sync,
+> Rounds<D, F>
 where
     F::Cost: StoredCost<D, Part = u32> + Send + Sync,
-    F::Wide: SettledFront<D, Cost = WideCost<D>> + Sync,
+    F::Wide: SettledFront<D, Cost = WideCost<D>> + Send + Sync,
     <F::Wide as SettledFront<D>>::Cost: StoredCost<D, Part = u64> + Send + Sync,
 {
     /// Begins a round.
     pub(crate) fn begin<R: Threads + Sync, G: Gate, L: Ledger>(
-        &mut self,
+        self,
         workers: &Workers<'_, R, G>,
         alloc: Global,
         steps: &mut Steps<L>,
-    ) -> Result<Begun, OutOfMemory>
-        requires { (core_of self.old).taken ≡ [] }
-        ensures begun { IfOk result (BeginsAs (core_of self.old) (core_of self.new)) }
-        ensures steps { CountsRound (core_of self.old) result steps.old steps.new }
+    ) -> Result<(Rounds<D, F>, Begun), OutOfMemory>
+        requires { (core_of self).taken ≡ [] }
+        ensures begun { IfOk result (λ r. BeginsAs (core_of self) (core_of r.0) r.1) }
+        ensures steps { CountsRound (core_of self) (answer_of result) steps.old steps.new }
     {
         match self {
-            Rounds::Narrow(rounds) => rounds.core.begin(workers, alloc, steps),
-            Rounds::Wide(rounds) => rounds.core.begin(workers, alloc, steps),
+            Rounds::Narrow(rounds) => {
+                let (rounds, begun) = rounds.begin(workers, alloc, steps)?;
+                Ok((Rounds::Narrow(rounds), begun))
+            }
+            Rounds::Wide(rounds) => {
+                let (rounds, begun) = rounds.begin(workers, alloc, steps)?;
+                Ok((Rounds::Wide(rounds), begun))
+            }
         }
     }
 
@@ -229,7 +254,7 @@ fn finish_wide<const D: usize, F: NarrowFront<D>, R: Threads + Sync, G: Gate>(
     network: &Network<'_>,
 ) -> Result<Rounds<D, F>, OutOfMemory>
 where
-    F::Wide: SettledFront<D, Cost = WideCost<D>> + Sync,
+    F::Wide: SettledFront<D, Cost = WideCost<D>> + Send + Sync,
     <F::Wide as SettledFront<D>>::Cost: StoredCost<D, Part = u64> + Send + Sync,
     requires criteria { network.now.criteria ≡ D }
     requires is_open { IsOpen network.now rounds.core }

@@ -1,2 +1,3 @@
+mod meeting;
 mod networks;
 mod rounds;

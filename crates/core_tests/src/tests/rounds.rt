@@ -4,6 +4,7 @@ ghost use Rattle.bulk_rounds.specs.Cores.{IsNewSearch};
 ghost use Rattle.bulk_search.specs.Rounds.{EndsOver, IsOpen};
 ghost use Rattle.road_network.specs.Queries.{IsQuery, limit_of};
 
+use super::meeting::Meeting;
 use super::networks::{ArcTable, SIX_ARCS, TWO_WALKS, join};
 use arc_graph::Network;
 use bulk_core::Core;
@@ -22,7 +23,7 @@ use std::thread::Threads;
 use stored_cost::{NarrowCost, StoredCost};
 use waiting_item::Item;
 use waiting_queue::Steps;
-use work_claim::{OpenGate, Workers};
+use work_claim::Workers;
 
 /// A search by two criteria whose costs have 32 bits a component.
 type Search = Core<2, StairFront<NarrowCost<2>>>;
@@ -34,7 +35,7 @@ struct Round {
 }
 
 /// A search from the first node to the last: over which network, by how many workers and within which budget; its rounds, and
-/// how one more begins.
+/// how one more begins. Whoever settles a part of a round waits so many turns for another who does.
 #[derive(Drop)]
 struct Example<'e> {
     network: ArcTable,
@@ -42,6 +43,7 @@ struct Example<'e> {
     budget: u32,
     rounds: &'e [Round],
     then: Begun,
+    turns: u32,
 }
 
 /// Over the two walks the last node is reached twice at one cost, and is taken once.
@@ -117,27 +119,28 @@ fn are(taken: &[Item<NarrowCost<2>>], wanted: &[(u32, [u64; 2])]) -> bool {
 
 /// Begins a round, and compares what it takes.
 fn begin<R: Threads + Sync + Abort, L: Ledger>(
-    workers: &Workers<'_, R, OpenGate>,
+    workers: &Workers<'_, R, Meeting>,
     alloc: Global,
-    search: &mut Search,
+    search: Search,
     steps: &mut Steps<L>,
     takes: &[(u32, [u64; 2])],
-) -> Result<(), OutOfMemory>
-    requires { search.old.taken ≡ [] }
-    ensures takes { IfOk result (λ _. TakesNext search.old search.new) }
+) -> Result<Search, OutOfMemory>
+    requires { search.taken ≡ [] }
+    ensures takes { IfOk result (TakesNext search) }
     ensures step { IfOk result (λ _. steps.new ≡ steps.old + 1) }
 {
     let rt = workers.rt();
-    let Begun::Taken = search.begin(workers, alloc, steps)? else {
+    let (search, begun) = search.begin(workers, alloc, steps)?;
+    let Begun::Taken = begun else {
         panic!(rt; "a round begins");
     };
     assert!(rt; are(search.taken(), takes), "what is taken");
-    Ok(())
+    Ok(search)
 }
 
 /// Ends a round with what it gives along the arcs, so many candidates.
 fn finish<R: Threads + Sync + Abort>(
-    workers: &Workers<'_, R, OpenGate>,
+    workers: &Workers<'_, R, Meeting>,
     alloc: Global,
     network: &Network<'_>,
     search: &mut Search,
@@ -159,7 +162,7 @@ fn finish<R: Threads + Sync + Abort>(
 
 /// Makes these rounds, and tells how one more begins. Where it finds nothing open, just these rounds were counted.
 fn begun_after<R: Threads + Sync + Abort, L: Ledger>(
-    workers: &Workers<'_, R, OpenGate>,
+    workers: &Workers<'_, R, Meeting>,
     alloc: Global,
     network: &Network<'_>,
     query: &Query,
@@ -174,10 +177,11 @@ fn begun_after<R: Threads + Sync + Abort, L: Ledger>(
     prove!(network.nodes() >= 1);
     let mut search = start(alloc, network, query)?;
     for round in rounds {
-        begin(workers, alloc, &mut search, steps, round.takes)?;
+        search = begin(workers, alloc, search, steps, round.takes)?;
         finish(workers, alloc, network, &mut search, round.gives)?;
     }
-    Ok(search.begin(workers, alloc, steps)?)
+    let (_, begun) = search.begin(workers, alloc, steps)?;
+    Ok(begun)
 }
 
 /// Makes the rounds of an example, and compares how one more begins.
@@ -208,7 +212,8 @@ fn run_counted<R: Threads + Sync + Abort, L: Ledger>(
         1 <= example.workers && example.workers <= 64,
         "some workers"
     );
-    let workers = Workers::new(rt, example.workers, &OpenGate);
+    let gate = Meeting::new(example.turns);
+    let workers = Workers::new(rt, example.workers, &gate);
     let mut steps = Steps::<L>::new(blank);
     let begun = begun_after(
         &workers,
@@ -219,6 +224,7 @@ fn run_counted<R: Threads + Sync + Abort, L: Ledger>(
         &mut steps,
     )?;
     assert!(rt; begun == example.then, "how one more round begins");
+    assert!(rt; example.turns == 0 || gate.met(), "two settle at once");
     Ok(())
 }
 
@@ -233,6 +239,7 @@ fn takes_equal_costs_of_a_round_together(rt: HostRuntime) -> Result<(), Fail> {
             budget: 1000,
             rounds: &TWO_WALKS_ROUNDS,
             then: Begun::Done,
+            turns: 0,
         },
     )
 }
@@ -248,6 +255,7 @@ fn tells_the_budget_that_a_round_would_pass(rt: HostRuntime) -> Result<(), Fail>
             budget: 3,
             rounds: &TWO_WALKS_ROUNDS[..2],
             then: Begun::Budget,
+            turns: 0,
         },
     )
 }
@@ -263,6 +271,23 @@ fn takes_the_six_arcs_in_three_rounds(rt: HostRuntime) -> Result<(), Fail> {
             budget: 1000,
             rounds: &SIX_ARCS_ROUNDS,
             then: Begun::Done,
+            turns: 0,
+        },
+    )
+}
+
+#[test]
+fn two_workers_settle_at_once(rt: HostRuntime) -> Result<(), Fail> {
+    run(
+        &rt,
+        rt.alloc(),
+        &Example {
+            network: SIX_ARCS,
+            workers: 2,
+            budget: 1000,
+            rounds: &SIX_ARCS_ROUNDS,
+            then: Begun::Done,
+            turns: 100_000_000,
         },
     )
 }

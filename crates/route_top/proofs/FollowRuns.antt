@@ -1,5 +1,5 @@
 -- Runs of the command `follow`.
-use Rattle.std.proofs.Common.{◌∙◌, ℕ, List, [], ◌∷◌, ◌++◌, append_assoc, ap, arith, false, length, ◌≤◌, refl, subst, sym, Ok, Err}
+use Rattle.std.proofs.Common.{◌∙◌, ℕ, List, [], ◌∷◌, ◌++◌, append_assoc, ap, arith, false, None, length, ◌≤◌, refl, subst, sym, Ok, Err}
 use Rattle.std.specs.Prelude.{◌==◌, Option}
 use Rattle.std.specs.List.{AllZip}
 use Rattle.road_network.specs.Network.{Network}

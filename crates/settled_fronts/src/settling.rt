@@ -43,7 +43,7 @@ where
         place (F.costs before) (F.costs after) };
 
     fn change(&self, first: usize, fronts: &mut [F]) -> Result<(), OutOfMemory> {
-        self.gate.pass(Phase::Merge, first as u64);
+        self.gate.pass(Phase::Settle, first as u64);
         for item in self.items {
             let place = self.places[item.node.0 as usize] as usize;
             if first <= place && place - first < fronts.len() {

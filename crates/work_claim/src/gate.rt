@@ -7,6 +7,8 @@ pub enum Phase {
     Query,
     Relax,
     Merge,
+    /// The shares in which what a round took is settled. How many there are depends on the workers.
+    Settle,
 }
 
 /// What each piece of work passes before it is done. It changes no result; tests see by it which pieces run side by side.

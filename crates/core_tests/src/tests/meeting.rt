@@ -30,7 +30,7 @@ impl Gate for Meeting {
     ghost SHARED_FROM = { 0 };
 
     fn pass(&self, phase: Phase, _piece: u64) {
-        if phase != Phase::Merge {
+        if phase != Phase::Settle {
             return;
         }
         if self.one_is_here.swap(true, Ordering::SeqCst) {

@@ -3,10 +3,9 @@ ghost use Rattle.std.specs.Prelude.{◌≤◌, IsTrue, All};
 ghost use Rattle.cost_vector.specs.Costs.{Dominates, max_criteria, min_criteria};
 
 use crate::tests::drawing::{cost_of, draw_cost};
-use cost_vector::{CompactCost, NodeNo};
+use cost_vector::CompactCost;
 use out_of_memory::OutOfMemory;
 use settled_front::{NarrowFront, SettledFront, StairFront};
-use settled_fronts::Fronts;
 use std::alloc::Global;
 use std::process::Abort;
 use stored_cost::{NarrowCost, StoredCost, WideCost};
@@ -132,26 +131,4 @@ fn widens(rt: &impl Abort, alloc: Global) -> Result<bool, OutOfMemory> {
 #[test]
 fn fronts_are_widened(rt: HostRuntime) {
     assert!(rt; widens(&rt, rt.alloc()) == Ok(true), "the same costs");
-}
-
-/// Whether a cost that is settled at a node covers there alone.
-fn settles_at_one(rt: &impl Abort, alloc: Global) -> Result<bool, OutOfMemory> {
-    let mut fronts = Fronts::<2, StairFront<NarrowCost<2>>>::new(alloc, 3)?;
-    let cost = cost_of(rt, &[4, 4]);
-    if fronts.covers(NodeNo(2), &cost) {
-        return Ok(false);
-    }
-    fronts.push(NodeNo(2), &cost)?;
-    let more = cost_of(rt, &[4, 5]);
-    let there = fronts.covers(NodeNo(2), &cost) && fronts.covers(NodeNo(2), &more);
-    let elsewhere = fronts.covers(NodeNo(1), &more) || fronts.covers(NodeNo(3), &more);
-    Ok(there && !elsewhere && fronts.len() == 1)
-}
-
-#[test]
-fn nodes_have_their_own_fronts(rt: HostRuntime) {
-    assert!(rt;
-        settles_at_one(&rt, rt.alloc()) == Ok(true),
-        "one node of three"
-    );
 }

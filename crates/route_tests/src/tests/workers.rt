@@ -161,6 +161,7 @@ struct Meeting {
     queried: AtomicU32,
     relaxed: AtomicU32,
     merged: AtomicU32,
+    settled: AtomicU32,
     even_came: AtomicBool,
     odd_came: AtomicBool,
     gave_up: AtomicBool,
@@ -176,6 +177,7 @@ impl Meeting {
             queried: AtomicU32::new(0),
             relaxed: AtomicU32::new(0),
             merged: AtomicU32::new(0),
+            settled: AtomicU32::new(0),
             even_came: AtomicBool::new(false),
             odd_came: AtomicBool::new(false),
             gave_up: AtomicBool::new(false),
@@ -208,6 +210,7 @@ impl Meeting {
             Phase::Query => &self.queried,
             Phase::Relax => &self.relaxed,
             Phase::Merge => &self.merged,
+            Phase::Settle => &self.settled,
         }
     }
 }

@@ -269,7 +269,7 @@ impl Gate for Counts {
 
     fn pass(&self, phase: Phase, _piece: u64) {
         let count = match phase {
-            Phase::Query => return,
+            Phase::Query | Phase::Settle => return,
             Phase::Relax => &self.relaxes,
             Phase::Merge => &self.merges,
         };
